@@ -1,0 +1,120 @@
+-- Document 01, 'The mesh': five tables, four kinds of cells, and the parts of a cell.
+use mathlib.Core.Bool.{cond, _&&_}
+use mathlib.Core.List.{List, [], _∷_, map}
+use Prim.Native.Nat.{ℕ, _/_}
+use lib.ListN.{length, getD}
+use lib.IntN.{ℤ}
+use Rattle.rules.specs.Lists.{concat, cut, upFrom, has}
+
+-- "A mesh is five tables: vertices (three coordinates), hexes (8 corners), quads (4), segments (2), points (1). Corners are vertex
+-- numbers counted from 0." The tables are flat, as they lie in memory: one entry after the other.
+pub record Mesh : Type 0 where
+  pub vertices : List ℤ
+  pub hexes : List ℕ
+  pub quads : List ℕ
+  pub segments : List ℕ
+  pub points : List ℕ
+
+-- ---- the kinds of cells
+
+pub data Kind : Type 0 where
+  hex quad segment point : Kind
+
+-- in the order in which a mesh is walked: "walking hexes, then quads, then segments"; a point has neither edges nor faces
+abbrev pub kinds : List Kind
+kinds = hex ∷ quad ∷ segment ∷ point ∷ []
+
+-- "point 0, segment 1, quad 2, hex 3"
+abbrev pub dimension : Kind → ℕ
+dimension hex = 3
+dimension quad = 2
+dimension segment = 1
+dimension point = 0
+
+-- how many corners a cell has
+abbrev pub corners : Kind → ℕ
+corners hex = 8
+corners quad = 4
+corners segment = 2
+corners point = 1
+
+-- ---- the topology of a mesh: its cells without the positions of its vertices
+
+-- how many vertices there are, and the corners of each cell, kind by kind
+pub record Topology : Type 0 where
+  pub vertexCount : ℕ
+  pub hexes : List (List ℕ)
+  pub quads : List (List ℕ)
+  pub segments : List (List ℕ)
+  pub points : List (List ℕ)
+
+abbrev pub cellsOf : Topology → Kind → List (List ℕ)
+cellsOf t hex = t .hexes
+cellsOf t quad = t .quads
+cellsOf t segment = t .segments
+cellsOf t point = t .points
+
+unfoldable pub topology : Mesh → Topology
+topology m = record {
+  vertexCount = length (m .vertices) / 3;
+  hexes = cut (corners hex) (m .hexes);
+  quads = cut (corners quad) (m .quads);
+  segments = cut (corners segment) (m .segments);
+  points = cut (corners point) (m .points);
+}
+
+-- the mesh with the given coordinates and the cells of a topology
+unfoldable pub meshOf : List ℤ → Topology → Mesh
+meshOf xs t = record {
+  vertices = xs;
+  hexes = concat (t .hexes);
+  quads = concat (t .quads);
+  segments = concat (t .segments);
+  points = concat (t .points);
+}
+
+-- ---- the parts of a cell, by the places of their corners in it
+
+-- "Edges of a hex, in order: 01 12 23 30 45 56 67 74 04 15 26 37."
+abbrev pub hexEdges : List (List ℕ)
+hexEdges = (0 ∷ 1 ∷ []) ∷ (1 ∷ 2 ∷ []) ∷ (2 ∷ 3 ∷ []) ∷ (3 ∷ 0 ∷ []) ∷ (4 ∷ 5 ∷ []) ∷ (5 ∷ 6 ∷ []) ∷ (6 ∷ 7 ∷ []) ∷ (7 ∷ 4 ∷ []) ∷ (0 ∷ 4 ∷ []) ∷ (1 ∷ 5 ∷ []) ∷ (2 ∷ 6 ∷ []) ∷ (3 ∷ 7 ∷ []) ∷ []
+
+-- "Faces of a hex, in order: 0123 4567 0154 1265 2376 3047."
+abbrev pub hexFaces : List (List ℕ)
+hexFaces = (0 ∷ 1 ∷ 2 ∷ 3 ∷ []) ∷ (4 ∷ 5 ∷ 6 ∷ 7 ∷ []) ∷ (0 ∷ 1 ∷ 5 ∷ 4 ∷ []) ∷ (1 ∷ 2 ∷ 6 ∷ 5 ∷ []) ∷ (2 ∷ 3 ∷ 7 ∷ 6 ∷ []) ∷ (3 ∷ 0 ∷ 4 ∷ 7 ∷ []) ∷ []
+
+-- "A quad has edges 01 12 23 30 and is itself one face. A segment is one edge."
+abbrev pub quadEdges : List (List ℕ)
+quadEdges = (0 ∷ 1 ∷ []) ∷ (1 ∷ 2 ∷ []) ∷ (2 ∷ 3 ∷ []) ∷ (3 ∷ 0 ∷ []) ∷ []
+
+-- all corner places of a cell
+unfoldable pub whole : Kind → List ℕ
+whole κ = upFrom 0 (corners κ)
+
+-- each of the numbers 0 to n - 1 as a part by itself
+unfoldable pub singles : ℕ → List (List ℕ)
+singles n = map (λ (j : ℕ). j ∷ []) (upFrom 0 n)
+
+-- the parts of a cell by dimension: its corners, edges, faces, and the hex itself
+unfoldable pub byDimension : Kind → List (List (List ℕ))
+byDimension hex = singles 8 ∷ hexEdges ∷ hexFaces ∷ (whole hex ∷ []) ∷ []
+byDimension quad = singles 4 ∷ quadEdges ∷ (whole quad ∷ []) ∷ []
+byDimension segment = singles 2 ∷ (whole segment ∷ []) ∷ []
+byDimension point = singles 1 ∷ []
+
+-- the parts of dimension d
+unfoldable pub places : Kind → ℕ → List (List ℕ)
+places κ d = getD (byDimension κ) d []
+
+-- all parts, the smaller ones first
+unfoldable pub cellParts : Kind → List (List ℕ)
+cellParts κ = concat (byDimension κ)
+
+-- the first part of a list that holds the places i and j
+unfoldable pub firstHolding : ℕ → ℕ → List (List ℕ) → List ℕ
+firstHolding i j [] = []
+firstHolding i j (p ∷ ps) = let r = firstHolding i j ps in cond (has i p && has j p) p r
+
+-- "the smallest edge, face or cell of the parent that holds corners i and j; if i = j it is that corner"
+unfoldable pub smallest : Kind → ℕ → ℕ → List ℕ
+smallest κ i j = firstHolding i j (cellParts κ)

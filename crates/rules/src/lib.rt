@@ -1,0 +1,40 @@
+// Document 01 as definitions (specs/), the answers that its entry points give, and its constant tables.
+
+// The counts of a mesh's five tables.
+#[repr(C)]
+pub struct Counts {
+    pub vertices: u32,
+    pub hexes: u32,
+    pub quads: u32,
+    pub segments: u32,
+    pub points: u32,
+}
+
+// What refining and reading answer: the refusal's number, 0 for none, and the counts.
+#[repr(C)]
+pub struct CountsAnswer {
+    pub refusal: u32,
+    pub counts: Counts,
+}
+
+// What writing and the irregular count answer: the refusal's number, 0 for none, and a count.
+#[repr(C)]
+pub struct CountAnswer {
+    pub refusal: u32,
+    pub count: u64,
+}
+
+// A position in millimetres.
+#[repr(C)]
+pub struct Millimetres {
+    pub x: f64,
+    pub y: f64,
+    pub z: f64,
+}
+
+// What the millimetre report answers: the refusal's number, 0 for none, and the position.
+#[repr(C)]
+pub struct MillimetresAnswer {
+    pub refusal: u32,
+    pub position: Millimetres,
+}
