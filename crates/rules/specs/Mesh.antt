@@ -15,6 +15,10 @@ pub record Mesh : Type 0 where
   pub segments : List ℕ
   pub points : List ℕ
 
+-- the mesh that five slices hold, for contracts
+abbrev pub mesh : List ℤ → List ℕ → List ℕ → List ℕ → List ℕ → Mesh
+mesh xs hs qs ss ps = record { vertices = xs; hexes = hs; quads = qs; segments = ss; points = ps }
+
 -- ---- the kinds of cells
 
 pub data Kind : Type 0 where

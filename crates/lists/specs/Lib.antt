@@ -1,0 +1,3 @@
+-- Statements about lists.
+-- Membership: an element is in a list; no element is in it twice.
+pub mod Membership
