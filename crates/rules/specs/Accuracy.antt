@@ -1,17 +1,13 @@
--- Document 01, 'Rounding': the written and the exact coordinates after some rounds, what feeds a coordinate, the bounding box; and the
--- third property, one statement over the whole count of rounds. A list of rounds has the latest first.
+-- Document 01, 'Rounding': the written and the exact coordinates after some rounds, what feeds a coordinate, and the bounding box: what the
+-- third property speaks of. A list of rounds has the latest first.
 use mathlib.Core.Path.{_≡_}
 use mathlib.Core.Bool.{cond}
 use mathlib.Core.List.{List, [], _∷_, map}
-use mathlib.Core.Logic.{_↔_}
-use Prim.Native.Nat.{ℕ, _+_, _*_, _/_, _<_}
-use lib.ListN.{length, getD}
-use lib.IntN.{ℤ, pos, _+ℤ_, _*ℤ_}
-use lib.Signed.{ltZ, _≤ℤ_, _<ℤ_}
+use Prim.Native.Nat.{ℕ, _*_, _/_}
+use lib.IntN.{ℤ, pos, _*ℤ_}
+use lib.Signed.{ltZ}
 use Rattle.rules.specs.Lists.{Each, concatMap}
-use Rattle.rules.specs.Mesh.{Mesh}
 use Rattle.rules.specs.Means.{Draw, Mean, Round, meanOf, coordinate, total, rounded, remainder}
-use Rattle.rules.specs.Averaging.{axis, refined, roundsOf}
 
 -- ---- the written coordinates of one axis: each mean is rounded
 
@@ -85,36 +81,3 @@ least (x ∷ xs) = leastOf x xs
 unfoldable pub greatest : List ℤ → ℤ
 greatest [] = pos 0
 greatest (x ∷ xs) = greatestOf x xs
-
--- ---- the third property
-
--- a fraction e / q and a whole number w, "compared by cross-multiplying": e / q = w, w < e / q, e / q < w
-abbrev pub Equals : ℤ → ℕ → ℤ → Type 0
-Equals e q w = e ≡ pos q *ℤ w
-
-abbrev pub Exceeds : ℤ → ℕ → ℤ → Type 0
-Exceeds e q w = (pos q *ℤ w) <ℤ e
-
-abbrev pub FallsBelow : ℤ → ℕ → ℤ → Type 0
-FallsBelow e q w = e <ℤ (pos q *ℤ w)
-
--- What is claimed of one coordinate after k rounds: it is written as w, it is exactly e / q, and the box runs from lo to hi.
--- `Clean` says that no division that feeds it left a remainder.
-pub record Accurate (Clean : Type 0) (k : ℕ) (lo hi e : ℤ) (q : ℕ) (w : ℤ) : Type 0 where
-  pub fraction : 0 < q
-  -- "the written coordinate and the one exact fractions give are equal exactly when no division left a remainder"
-  pub equal : Clean ↔ Equals e q w
-  -- "otherwise the written one is smaller, by less than as many units as there were rounds"
-  pub smaller : (Clean → ⊥) → Exceeds e q w
-  pub near : (Clean → ⊥) → FallsBelow e q (w +ℤ pos k)
-  -- "The written one stays inside the first mesh's bounding box."
-  pub low : lo ≤ℤ w
-  pub high : w ≤ℤ hi
-
--- The third property of a written table of coordinates `ws`, after k rounds of the mesh m: for each axis a and each vertex v.
-abbrev pub Property3 : ℕ → Mesh → List ℤ → Type 0
-Property3 k m ws =
-    (a v : ℕ) → a < 3 → 3 * v + a < length ws
-    → let rs = roundsOf k m in
-    let xs = axis a (m .vertices) in
-    Accurate (NoRemainder rs xs v) k (least xs) (greatest xs) (coordinate (exact rs xs) v) (exactDivisor rs) (getD ws (3 * v + a) (pos 0))

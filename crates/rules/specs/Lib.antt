@@ -9,7 +9,7 @@ pub mod Split
 pub mod Means
 -- Averaging: rank, valence, the means of a round, the round, several rounds.
 pub mod Averaging
--- Accuracy: exact coordinates, feeding, the bounding box, the third property.
+-- Accuracy: exact coordinates, feeding, the bounding box.
 pub mod Accuracy
 -- Counts: the counts of a round, the finished counts, the ranges.
 pub mod Counts
