@@ -1,7 +1,7 @@
 -- Document 01, 'The mesh': five tables, four kinds of cells, and the parts of a cell.
 use mathlib.Core.Bool.{cond, _&&_}
 use mathlib.Core.List.{List, [], _∷_, map}
-use Prim.Native.Nat.{ℕ, _/_}
+use Prim.Native.Nat.{ℕ, suc, _/_}
 use lib.ListN.{length, getD}
 use lib.IntN.{ℤ}
 use Rattle.rules.specs.Lists.{concat, cut, upFrom, has}
@@ -122,3 +122,18 @@ firstHolding i j (p ∷ ps) = let r = firstHolding i j ps in cond (has i p && ha
 -- "the smallest edge, face or cell of the parent that holds corners i and j; if i = j it is that corner"
 unfoldable pub smallest : Kind → ℕ → ℕ → List ℕ
 smallest κ i j = firstHolding i j (cellParts κ)
+
+-- ---- the same in numbers, as code asks for them
+
+-- corner k of part number p of a list of parts
+abbrev pub placeOf : List (List ℕ) → ℕ → ℕ → ℕ
+placeOf ps p k = getD (getD ps p []) k 0
+
+-- the number of the first part that holds the places i and j
+unfoldable pub firstIndex : ℕ → ℕ → List (List ℕ) → ℕ
+firstIndex i j [] = 0
+firstIndex i j (p ∷ ps) = let r = firstIndex i j ps in cond (has i p && has j p) 0 (suc r)
+
+-- "the table of smallest part for corners i, j": in row i and column j the number of that part among the cell's parts
+unfoldable pub smallestTable : Kind → List (List ℕ)
+smallestTable κ = map (λ (i : ℕ). map (λ (j : ℕ). firstIndex i j (cellParts κ)) (whole κ)) (whole κ)
