@@ -13,3 +13,7 @@ pub mod FineCounts
 pub mod FineFaces
 -- A split of a sound topology is sound.
 pub mod SplitSound
+-- The numbers of the fine vertices.
+pub mod Numbers
+-- The sizes of a split, round after round.
+pub mod SplitSizes

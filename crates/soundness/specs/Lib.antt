@@ -1,3 +1,7 @@
 -- Statements about meshes that pass the checks.
 -- Sound: what checks 4 to 8 let through.
 pub mod Sound
+-- Where the numbers of the fine vertices start.
+pub mod Numbers
+-- Sizes compared.
+pub mod Growth
