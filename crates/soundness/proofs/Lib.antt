@@ -17,3 +17,5 @@ pub mod SplitSound
 pub mod Numbers
 -- The sizes of a split, round after round.
 pub mod SplitSizes
+-- The checks and the statement agree.
+pub mod Checks

@@ -8,16 +8,16 @@ use native.Mathlib.Nat.{zero-add}
 use native.Mathlib.Omega.{arith}
 use lib.ListN.{length, getD, length-map}
 use Rattle.rules.specs.Lists.{any, concat, concatMap, upFrom, has, Key, keyOf, indexOf, distinct}
-use Rattle.rules.specs.Mesh.{hex, quad, segment, point, corners, whole, singles, hexEdges, hexFaces, byDimension, places, cellParts, firstHolding, smallest, Topology, cellsOf}
+use Rattle.rules.specs.Mesh.{hex, point, whole, singles, hexEdges, hexFaces, byDimension, places, cellParts, firstHolding, smallest, Topology}
 use Rattle.rules.specs.Split.{cornersAt, keyAt, met, distinctParts, edges, faces, parts, fineVertex, child}
-use Rattle.lists.specs.Membership.{In, Once}
-use Rattle.lists.proofs.Membership.{in-map, map-same, map-in, length-upFrom, upFrom-in, getD-run, getD-in, getD-map}
+use Rattle.lists.specs.Membership.{In}
+use Rattle.lists.proofs.Membership.{in-map, map-same, length-upFrom, getD-run, getD-in, getD-map}
 use Rattle.lists.proofs.Once.{once-map, once-upFrom}
 use Rattle.lists.proofs.Distinct.{index-at, index-left, index-right, distinct-once}
 use Rattle.soundness.specs.Sound.{corner, Sound}
 use Rattle.soundness.specs.Numbers.{start}
-use Rattle.soundness.proofs.CellParts.{dimensions, power, size}
-use Rattle.soundness.proofs.Cells.{CellOf, fine, childAt, parts-in, one-key, length-part, corners-whole, key-whole, part-size, upper, tops}
+use Rattle.soundness.proofs.CellParts.{power}
+use Rattle.soundness.proofs.Cells.{CellOf, fine, childAt, parts-in, one-key, corners-whole, key-whole, part-size, upper, tops}
 
 -- ---- a few parts as tables name them
 

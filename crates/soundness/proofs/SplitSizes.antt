@@ -1,16 +1,15 @@
 -- The sizes of a split: "a round gives V+E+F+H vertices, 2E+4F+6H edges, 4F+12H faces, 8H hexes". Sizes never fall. Assumes nothing.
-use mathlib.Core.Path.{_≡_, refl, sym, ap, _∙_}
+use mathlib.Core.Path.{_≡_, refl, ap, _∙_}
 use mathlib.Core.Logic.{inl, inr}
-use mathlib.Core.List.{List, [], _∷_, _++_}
-use Prim.Native.Nat.{ℕ, zero, suc, _+_, _*_, _≤_}
+use mathlib.Core.List.{_++_}
+use Prim.Native.Nat.{ℕ, zero, suc, _+_, _*_}
 use native.Mathlib.Nat.{zero-add, suc-add}
 use native.Mathlib.Omega.{arith}
 use lib.ListN.{length, length-map, length-append}
-use Rattle.rules.specs.Lists.{upFrom, Key, keyOf}
+use Rattle.rules.specs.Lists.{keyOf}
 use Rattle.rules.specs.Mesh.{Kind, hex, quad, segment, point, corners, whole, singles, Topology, cellsOf}
-use Rattle.rules.specs.Split.{distinctParts, edges, faces, parts, child, children, splitBy, split}
+use Rattle.rules.specs.Split.{distinctParts, edges, faces, parts, children, splitBy, split}
 use Rattle.rules.specs.Counts.{Sizes, sizes, nextSizes, sizesAfter}
-use Rattle.lists.specs.Membership.{In}
 use Rattle.lists.proofs.Once.{length-concatMap}
 use Rattle.soundness.specs.Sound.{Sound}
 use Rattle.soundness.specs.Growth.{AtMost}

@@ -5,3 +5,5 @@ pub mod Sound
 pub mod Numbers
 -- Sizes compared.
 pub mod Growth
+-- A mesh that passes checks 1 to 8.
+pub mod Accepted
