@@ -19,3 +19,5 @@ pub mod Numbers
 pub mod SplitSizes
 -- The checks and the statement agree.
 pub mod Checks
+-- Meshes, round after round.
+pub mod Rounds

@@ -1,8 +1,8 @@
 -- The sizes of a split: "a round gives V+E+F+H vertices, 2E+4F+6H edges, 4F+12H faces, 8H hexes". Sizes never fall. Assumes nothing.
-use mathlib.Core.Path.{_≡_, refl, ap, _∙_}
+use mathlib.Core.Path.{_≡_, refl, sym, ap, _∙_, subst}
 use mathlib.Core.Logic.{inl, inr}
 use mathlib.Core.List.{_++_}
-use Prim.Native.Nat.{ℕ, zero, suc, _+_, _*_}
+use Prim.Native.Nat.{ℕ, zero, suc, _+_, _*_, _-_, _≤_}
 use native.Mathlib.Nat.{zero-add, suc-add}
 use native.Mathlib.Omega.{arith}
 use lib.ListN.{length, length-map, length-append}
@@ -61,7 +61,7 @@ next-grows : (s : Sizes) → AtMost s (nextSizes s)
 unfolding nextSizes
 next-grows s = omega arith
 
-after-grows : (n : ℕ) (s : Sizes) → AtMost s (sizesAfter n s)
+pub after-grows : (n : ℕ) (s : Sizes) → AtMost s (sizesAfter n s)
 unfolding sizesAfter
 after-grows zero s = omega arith
 after-grows (suc n) s =
@@ -81,5 +81,7 @@ after-suc zero s = refl
 after-suc (suc n) s = after-suc n (nextSizes s)
 
 -- no size falls from one round to a later one
-pub never-fall : (k n : ℕ) (s : Sizes) → AtMost (sizesAfter k s) (sizesAfter (k + n) s)
-never-fall k n s = rw (after-more k n s) (after-grows n (sizesAfter k s))
+pub never-fall : (k n : ℕ) (s : Sizes) → k ≤ n → AtMost (sizesAfter k s) (sizesAfter n s)
+never-fall k n s l =
+    let e : n ≡ k + (n - k) = omega arith in
+    subst (λ (z : ℕ). AtMost (sizesAfter k s) (sizesAfter z s)) (sym e) (rw (after-more k (n - k) s) (after-grows (n - k) (sizesAfter k s)))
