@@ -38,3 +38,5 @@ pub struct MillimetresAnswer {
     pub refusal: u32,
     pub position: Millimetres,
 }
+
+pub mod tables;
