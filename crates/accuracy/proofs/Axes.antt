@@ -1,12 +1,11 @@
 -- The coordinates on one axis of a flat table of vertices, and of the vertices that a round gives.
-use mathlib.Core.Path.{_≡_, refl, sym, ap, _∙_}
-use mathlib.Core.Logic.{⊎-elim}
+use mathlib.Core.Path.{_≡_, refl, ap, _∙_}
 use mathlib.Core.List.{List, [], _∷_, map, map-map}
 use Prim.Native.Nat.{ℕ, zero, suc, _+_, _*_, _/_, _<_}
 use native.Mathlib.Omega.{arith}
 use lib.ListN.{length, getD, length-map}
 use lib.IntN.{ℤ, pos}
-use Rattle.rules.specs.Lists.{concat, concatMap, cut}
+use Rattle.rules.specs.Lists.{concat, cut}
 use Rattle.rules.specs.Means.{Mean, Round, coordinate, rounded}
 use Rattle.rules.specs.Averaging.{axis, averaged}
 use Rattle.lists.specs.Membership.{In}

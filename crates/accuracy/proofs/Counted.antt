@@ -1,6 +1,5 @@
 -- The cells counted for a vertex are the cells of one kind that hold it, and of a sound mesh there is one.
-use mathlib.Core.Path.{_≡_, refl, sym, ap, subst}
-use mathlib.Core.Bool.{true}
+use mathlib.Core.Path.{_≡_, refl, sym, subst}
 use mathlib.Core.List.{List, [], _∷_}
 use Prim.Native.Nat.{ℕ, _<_}
 use native.Mathlib.Omega.{arith}
@@ -11,7 +10,7 @@ use Rattle.rules.specs.Averaging.{holding, Counted, orElse, counted}
 use Rattle.lists.specs.Membership.{In}
 use Rattle.lists.proofs.Membership.{getD-in, in-some, keep-in, in-keep}
 use Rattle.lists.proofs.Tests.{in-has}
-use Rattle.soundness.specs.Sound.{Sound, Held}
+use Rattle.soundness.specs.Sound.{Sound}
 use Rattle.soundness.proofs.Cells.{whole-below}
 
 -- the kind of the counted cells
@@ -20,7 +19,9 @@ pub record Ranked (t : Topology) (v : ℕ) : Type 0 where
   pub rank : counted t v .rank ≡ dimension kind
   pub cells : counted t v .cells ≡ holding v (cellsOf t kind)
 
-or-else : (P : Counted → Type 0) (d : ℕ) (xs : List (List ℕ)) (higher : Counted) → P (record { rank = d; cells = xs }) → P higher → P (orElse d xs higher)
+or-else :
+    (P : Counted → Type 0) (d : ℕ) (xs : List (List ℕ)) (higher : Counted) → P (record { rank = d; cells = xs }) → P higher →
+    P (orElse d xs higher)
 unfolding orElse
 or-else P d [] higher p q = q
 or-else P d (x ∷ xs) higher p q = p

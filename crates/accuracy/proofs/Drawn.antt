@@ -1,14 +1,14 @@
 -- A fine vertex of a sound mesh draws on the corners of the parents of its counted cells, and on no other vertex.
-use mathlib.Core.Path.{_≡_, refl, sym, ap, _∙_, subst}
-use mathlib.Core.Logic.{_↔_, inl, ⊎-elim}
-use mathlib.Core.List.{List, [], _∷_, map, map-map}
+use mathlib.Core.Path.{_≡_, sym, ap, _∙_, subst}
+use mathlib.Core.Logic.{_↔_, ⊎-elim}
+use mathlib.Core.List.{List, [], _∷_, map}
 use Prim.Native.Nat.{ℕ, _/_, _<_}
 use native.Mathlib.Omega.{arith}
 use lib.ListN.{length, getD}
 use Rattle.rules.specs.Lists.{concatMap, Key, keyOf}
-use Rattle.rules.specs.Mesh.{Kind, whole, smallest, cellParts, Topology, cellsOf}
+use Rattle.rules.specs.Mesh.{whole, smallest, Topology}
 use Rattle.rules.specs.Split.{keyAt, parts, fineVertex, child, children, split}
-use Rattle.rules.specs.Means.{Draw, Mean, meanOf}
+use Rattle.rules.specs.Means.{Draw, meanOf}
 use Rattle.rules.specs.Averaging.{rank, counted, eighths, cellDraws, meanAt, means}
 use Rattle.lists.specs.Membership.{In}
 use Rattle.lists.proofs.Membership.{map-in, in-map, concatMap-in, in-concatMap, getD-in}
@@ -16,7 +16,7 @@ use Rattle.lists.proofs.Keys.{key-in}
 use Rattle.lists.proofs.Distinct.{at-index}
 use Rattle.soundness.specs.Sound.{corner, Sound}
 use Rattle.soundness.proofs.CellParts.{placed, whole-in, smallest-part, whole-child, between-in}
-use Rattle.soundness.proofs.Cells.{CellOf, fine, childAt, in-part, key-whole, whole-below, Child, is-child}
+use Rattle.soundness.proofs.Cells.{CellOf, fine, childAt, in-part, key-whole, whole-below, is-child}
 use Rattle.soundness.proofs.FineParts.{part-known}
 use Rattle.accuracy.specs.DrawsOn.{drawn, DrawsOn}
 use Rattle.accuracy.proofs.Counted.{ranked, counted-in}
@@ -66,7 +66,9 @@ module _ (numbered : List Key) where
 
 module _ (t : Topology) (s : Sound t) (x : CellOf t) (i : ℕ) (hi : In i (whole (x .kind))) where
   -- the part whose fine vertex is corner j
-  child-part : (j : ℕ) → In j (whole (x .kind)) → getD (parts t) (fine t (x .cell) (smallest (x .kind) i j)) [] ≡ keyAt (x .cell) (smallest (x .kind) i j)
+  child-part :
+      (j : ℕ) → In j (whole (x .kind)) →
+      getD (parts t) (fine t (x .cell) (smallest (x .kind) i j)) [] ≡ keyAt (x .cell) (smallest (x .kind) i j)
   unfolding fineVertex
   child-part j hj =
       let p = smallest (x .kind) i j in at-index (keyAt (x .cell) p) (parts t) (part-known t s x p (smallest-part (x .kind) i hi j hj))
@@ -90,8 +92,7 @@ module _ (t : Topology) (s : Sound t) (x : CellOf t) (i : ℕ) (hi : In i (whole
       let centre = between-in κ (i ∷ []) all all (whole-in κ) (λ j k. ⊎-elim (λ (e : j ≡ i). rw e hi) (λ (z : ⊥). absurd z) k) (λ j k. k) in
       let j = in-map (smallest κ i) all all (whole-child κ i hi .1 .1 all centre) in
       let e : keyOf (x .cell) ≡ getD (parts t) (fine t (x .cell) (smallest κ i (j .0))) [] =
-      sym (child-part (j .0) (j .1) ∙ ap (keyAt (x .cell)) (sym (j .2)) ∙ key-whole κ (x .cell) (s .sized κ (x .cell) (x .listed))) in
-      (
+      sym (child-part (j .0) (j .1) ∙ ap (keyAt (x .cell)) (sym (j .2)) ∙ key-whole κ (x .cell) (s .sized κ (x .cell) (x .listed))) in (
         fine t (x .cell) (smallest κ i (j .0)),
         map-in (λ (j : ℕ). fine t (x .cell) (smallest κ i j)) all (j .0) (j .1),
         subst (λ (p : Key). In u p) e (key-in (x .cell) u iu),
@@ -104,8 +105,7 @@ unfolding meanAt rank children
 drawn-exactly t s f l u =
     let c = counted (split t) f in
     let κ = ranked (split t) f .kind in
-    let is : drawn (meanOf (means t) f) ≡ map vertexOf (concatMap (cellDraws (parts t)) (c .cells)) = ap drawn (mean-is t f l) in
-    (
+    let is : drawn (meanOf (means t) f) ≡ map vertexOf (concatMap (cellDraws (parts t)) (c .cells)) = ap drawn (mean-is t f l) in (
       λ i.
           let r = through (parts t) (c .cells) u .0 (subst (λ (us : List ℕ). In u us) is i) in
           let p = is-child t κ (r .cell) (counted-in (split t) f (r .cell) (r .listed)) in

@@ -9,3 +9,5 @@ pub mod Counted
 pub mod Means
 -- Drawn: what a fine vertex draws on.
 pub mod Drawn
+-- Property3: the third property.
+pub mod Property3

@@ -1,86 +1,63 @@
 -- Each mean of a sound topology is good: it draws on vertices that are there, with weights above 0 that sum to its divisor.
-use mathlib.Core.Path.{_≡_, refl, sym, ap, ap₂, _∙_, subst}
-use mathlib.Core.Logic.{inl, inr, ⊎-elim}
-use mathlib.Core.List.{List, [], _∷_, _++_, map}
-use Prim.Native.Nat.{ℕ, _+_, _*_, _/_, _^_, _<_, zero-le}
+use mathlib.Core.Path.{_≡_, refl, sym, ap, _∙_, subst}
+use mathlib.Core.Logic.{inl, inr}
+use mathlib.Core.List.{List, [], _∷_, map}
+use Prim.Native.Nat.{ℕ, _*_, _/_, _^_, _<_, zero-le}
 use native.Mathlib.Omega.{arith}
 use native.Mathlib.Nat.{mul-pos}
 use lib.Pow.{pow-pos}
 use lib.ListN.{length, getD}
-use Rattle.rules.specs.Lists.{Each, concatMap, upFrom, Key}
-use Rattle.rules.specs.Mesh.{Kind, hex, quad, segment, point, dimension, corners, whole, singles, Topology, cellsOf}
+use Rattle.rules.specs.Lists.{Each, upFrom, Key}
+use Rattle.rules.specs.Mesh.{Kind, hex, quad, segment, point, dimension, corners, whole, Topology, cellsOf}
 use Rattle.rules.specs.Split.{parts, splitBy, split}
-use Rattle.rules.specs.Means.{Draw, Mean, Round, noMean, meanOf}
+use Rattle.rules.specs.Means.{Draw, Mean, noMean, meanOf}
 use Rattle.rules.specs.Averaging.{counted, rank, valence, eighths, cellDraws, meanAt, means}
 use Rattle.lists.specs.Membership.{In}
-use Rattle.lists.proofs.Membership.{in-append, in-map, in-upFrom, upFrom-in, getD-in, in-getD, getD-run}
+use Rattle.lists.proofs.Membership.{in-map, in-upFrom, upFrom-in, getD-in, in-getD, getD-run}
 use Rattle.lists.proofs.Each.{each-in, each-concatMap}
 use Rattle.rounding.specs.Good.{weights, GoodDraw, GoodMean}
 use Rattle.rounding.proofs.Draws.{weights-concatMap}
-use Rattle.soundness.specs.Sound.{corner, Sound}
-use Rattle.soundness.proofs.CellParts.{placed, is-part, dimensions}
-use Rattle.soundness.proofs.Cells.{in-parts, in-part, part-size, upper, tops, in-tops}
-use Rattle.accuracy.proofs.Rounds.{length-means}
+use Rattle.soundness.specs.Sound.{Sound}
+use Rattle.soundness.proofs.CellParts.{dimensions, placed, dimension-of, size}
+use Rattle.soundness.proofs.Cells.{in-part, length-part}
+use Rattle.soundness.proofs.SplitSound.{part-of, split-sound}
 use Rattle.accuracy.proofs.Counted.{ranked, counted-in, counted-some}
 
 -- ---- a split position in eighths
 
--- a part has 1, 2, 4 or 8 corners, and so its corners have equal shares of 8
+-- n corners have equal shares of 8
 pub record Shared (n : ℕ) : Type 0 where
   pub whole : n * (8 / n) ≡ 8
   pub some : 0 < 8 / n
 
-abbrev sizes : List ℕ
-sizes = 1 ∷ 2 ∷ 4 ∷ 8 ∷ []
-
-shared : (n : ℕ) → In n sizes → Shared n
-shared n (inl e) = rw e (record { whole = refl; some = omega arith })
-shared n (inr (inl e)) = rw e (record { whole = refl; some = omega arith })
-shared n (inr (inr (inl e))) = rw e (record { whole = refl; some = omega arith })
-shared n (inr (inr (inr (inl e)))) = rw e (record { whole = refl; some = omega arith })
+-- so have the 1, 2, 4 or 8 corners of a part
+shared : (d : ℕ) → In d dimensions → Shared (2 ^ d)
+shared d (inl e) = rw e (record { whole = refl; some = omega arith })
+shared d (inr (inl e)) = rw e (record { whole = refl; some = omega arith })
+shared d (inr (inr (inl e))) = rw e (record { whole = refl; some = omega arith })
+shared d (inr (inr (inr (inl e)))) = rw e (record { whole = refl; some = omega arith })
 
 weights-equal : (w : ℕ) (us : List ℕ) → weights (map (λ (u : ℕ). record { vertex = u; weight = w }) us) ≡ length us * w
 weights-equal w [] = omega arith
 weights-equal w (u ∷ us) = omega (arith, weights-equal w us)
 
-power-size : (d : ℕ) → In d upper → In (2 ^ d) sizes
-power-size d (inl e) = inr (inl (ap (λ (n : ℕ). 2 ^ n) e))
-power-size d (inr (inl e)) = inr (inr (inl (ap (λ (n : ℕ). 2 ^ n) e)))
-power-size d (inr (inr (inl e))) = inr (inr (inr (inl (ap (λ (n : ℕ). 2 ^ n) e))))
+-- a part's corners have equal shares of 8, and are among n vertices
+pub record GoodPart (n : ℕ) (part : Key) : Type 0 where
+  pub shares : Shared (length part)
+  pub known : (u : ℕ) → In u part → u < n
 
--- ---- the parts of a sound topology
-
--- a part's corners have equal shares of 8, and are vertices that are there
-pub record GoodPart (n : ℕ) (p : Key) : Type 0 where
-  pub shares : Shared (length p)
-  pub known : (u : ℕ) → In u p → u < n
-
-pub good-part : (t : Topology) → Sound t → (p : Key) → In p (parts t) → GoodPart (t .vertexCount) p
-unfolding parts singles
-good-part t s p i =
-    ⊎-elim (λ (j : In p (singles (t .vertexCount))). vertex j) (λ (j : In p (tops t)). larger j) (in-append p (singles (t .vertexCount)) (tops t) i)
-  where
-    vertex : In p (singles (t .vertexCount)) → GoodPart (t .vertexCount) p
-    vertex j =
-        let v = in-map (λ (u : ℕ). u ∷ []) (upFrom 0 (t .vertexCount)) p j in
-        let l : v .0 < t .vertexCount = omega (arith, in-upFrom 0 (t .vertexCount) (v .0) (v .1)) in
-        subst (GoodPart (t .vertexCount)) (sym (v .2)) (record {
-          shares = shared 1 (inl refl);
-          known = λ u k. ⊎-elim (λ (e : u ≡ v .0). rw e l) (λ (z : ⊥). absurd z) k;
-        })
-
-    larger : In p (tops t) → GoodPart (t .vertexCount) p
-    larger j =
-        let d = in-tops t p j in
-        let x = in-parts t (d .0) p (d .2) in
-        let c = x .0 in
-        let inside = placed (c .kind) (x .1) (is-part (c .kind) (d .0) (inr (d .1)) (x .1) (x .2)) in
-        record {
-          shares = subst Shared (sym (part-size t (d .0) (inr (d .1)) p (d .2))) (shared (2 ^ d .0) (power-size (d .0) (d .1)));
-          known = λ u k.
-              let q = in-part (c .cell) (x .1) u (subst (λ (y : Key). In u y) (x .3) k) in
-              rw (q .2) (s .known (c .kind) (c .cell) (c .listed) (q .0) (inside (q .0) (q .1)));
-        }
+pub good-part : (t : Topology) → Sound t → (part : Key) → In part (parts t) → GoodPart (t .vertexCount) part
+good-part t s part i =
+    let a = part-of t s part i in
+    let c = a .0 in
+    let p = a .1 in
+    let d = dimension-of (c .kind) p (a .2) in
+    record {
+      shares = subst Shared (sym (ap length (a .3) ∙ length-part (c .cell) p ∙ size (c .kind) (d .0) (d .1) p (d .2))) (shared (d .0) (d .1));
+      known = λ u k.
+          let q = in-part (c .cell) p u (subst (λ (y : Key). In u y) (a .3) k) in
+          rw (q .2) (s .known (c .kind) (c .cell) (c .listed) (q .0) (placed (c .kind) p (a .2) (q .0) (q .1)));
+    }
 
 -- ---- the weights of a split position, of a fine cell, of a mean
 
@@ -129,7 +106,10 @@ pub divisor-is : (t : Topology) (f : ℕ) → f < split t .vertexCount → meanO
 unfolding meanAt rank valence
 divisor-is t f l = ap (λ (m : Mean). m .divisor) (mean-is t f l)
 
-module _ (t : Topology) (s : Sound t) (fine : Sound (split t)) where
+module _ (t : Topology) (s : Sound t) where
+  fine : Sound (split t)
+  fine = split-sound t s
+
   -- a corner of a fine cell is the number of a part
   corner-part : (κ : Kind) (c : List ℕ) → In c (cellsOf (split t) κ) → (f : ℕ) → In f c → GoodPart (t .vertexCount) (getD (parts t) f [])
   unfolding split splitBy whole

@@ -9,7 +9,7 @@ use lib.IntN.{ℤ}
 use Rattle.rules.specs.Lists.{concat, cut, upFrom}
 use Rattle.rules.specs.Mesh.{Mesh, Kind, hex, quad, segment, point, corners, Topology, topology, meshOf, cellsOf}
 use Rattle.rules.specs.Split.{parts, splitBy, split}
-use Rattle.rules.specs.Means.{Round, rounded}
+use Rattle.rules.specs.Means.{rounded}
 use Rattle.rules.specs.Averaging.{meanAt, means, axis, averaged, round, refined, roundsOf}
 use Rattle.rules.specs.Accuracy.{written}
 use Rattle.lists.specs.Membership.{In}
