@@ -11,3 +11,7 @@ pub mod Means
 pub mod Drawn
 -- Property3: the third property.
 pub mod Property3
+-- Sums: no sum of a division overflows.
+pub mod Sums
+-- Range: coordinates in range stay in range.
+pub mod Range

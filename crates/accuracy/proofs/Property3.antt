@@ -16,7 +16,7 @@ use Rattle.soundness.specs.Sound.{Sound}
 use Rattle.soundness.proofs.SplitSound.{split-sound}
 use Rattle.accuracy.specs.Property3.{Property3}
 use Rattle.accuracy.proofs.Axes.{length-axis, axis-at}
-use Rattle.accuracy.proofs.Rounds.{topology-round, length-rounds, count-rounds, refined-written, whole-vertices}
+use Rattle.accuracy.proofs.Rounds.{topology-round, length-rounds, count-rounds, written-below, written-at}
 use Rattle.accuracy.proofs.Means.{means-good}
 
 pub refined-sound : (k : ℕ) (m : Mesh) → Sound (topology m) → Sound (topology (refined k m))
@@ -24,22 +24,17 @@ unfolding refined
 refined-sound zero m s = s
 refined-sound (suc k) m s = let n = refined k m in subst Sound (sym (topology-round n)) (split-sound (topology n) (refined-sound k m s))
 
-pub rounds-good : (k : ℕ) (m : Mesh) → Sound (topology m) → GoodRounds (topology m .vertexCount) (roundsOf k m)
+pub rounds-good : (k : ℕ) (m : Mesh) (a : ℕ) → Sound (topology m) → GoodRounds (length (axis a (m .vertices))) (roundsOf k m)
 unfolding roundsOf
-rounds-good zero m s = tt
-rounds-good (suc k) m s = (rw (count-rounds k m) (means-good (topology (refined k m)) (refined-sound k m s)), rounds-good k m s)
+rounds-good zero m a s = tt
+rounds-good (suc k) m a s = (rw (count-rounds k m a) (means-good (topology (refined k m)) (refined-sound k m s)), rounds-good k m a s)
 
 pub property-3 : (k : ℕ) (m : Mesh) → Sound (topology m) → length (m .vertices) % 3 ≡ 0 → Property3 k m (refined k m .vertices)
-unfolding topology
 property-3 k m s whole a v h l =
     let xs = axis a (m .vertices) in
     let rs = roundsOf k m in
-    let ws = refined k m .vertices in
-    let n : length xs ≡ topology m .vertexCount = length-axis a (m .vertices) in
-    let inside : v < length ws / 3 = omega (arith, whole-vertices k m whole) in
-    let claim : ℕ → ℤ → Type 0 = λ k w. Accurate (NoRemainder rs xs v) k (least xs) (greatest xs) (coordinate (exact rs xs) v) (exactDivisor rs) w in
-    let at : coordinate (written rs xs) v ≡ getD ws (3 * v + a) (pos 0) =
-    ap (λ (ys : List ℤ). coordinate ys v) (sym (refined-written k m a h)) ∙ axis-at a ws v h inside in
-    subst (λ (w : ℤ). claim k w) at
-    (subst (λ (j : ℕ). claim j (coordinate (written rs xs) v)) (length-rounds k m)
-    (accurate rs xs v (rw n (rounds-good k m s)) (rw (n, count-rounds k m) inside)))
+    let claim : ℕ → ℤ → Type 0 =
+    λ k w. Accurate (NoRemainder rs xs v) k (least xs) (greatest xs) (coordinate (exact rs xs) v) (exactDivisor rs) w in
+    subst (λ (j : ℕ). claim j (getD (refined k m .vertices) (3 * v + a) (pos 0))) (length-rounds k m)
+    (subst (claim (length rs)) (written-at k m whole a v h l)
+    (accurate rs xs v (rounds-good k m a s) (written-below k m whole a v h l)))

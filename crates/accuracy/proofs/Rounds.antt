@@ -1,15 +1,15 @@
 -- The topology and the coordinates of a mesh after some rounds.
 use mathlib.Core.Path.{_≡_, refl, sym, ap, _∙_}
 use mathlib.Core.List.{List, map}
-use Prim.Native.Nat.{ℕ, zero, suc, _*_, _/_, _%_, _<_}
+use Prim.Native.Nat.{ℕ, zero, suc, _+_, _*_, _/_, _%_, _<_}
 use native.Mathlib.Omega.{arith}
 use native.Mathlib.Nat.{mul-div-cancel-left}
-use lib.ListN.{length, length-map}
-use lib.IntN.{ℤ}
+use lib.ListN.{length, getD, length-map}
+use lib.IntN.{ℤ, pos}
 use Rattle.rules.specs.Lists.{concat, cut, upFrom}
 use Rattle.rules.specs.Mesh.{Mesh, Kind, hex, quad, segment, point, corners, Topology, topology, meshOf, cellsOf}
 use Rattle.rules.specs.Split.{parts, splitBy, split}
-use Rattle.rules.specs.Means.{rounded}
+use Rattle.rules.specs.Means.{coordinate, rounded}
 use Rattle.rules.specs.Averaging.{meanAt, means, axis, averaged, round, refined, roundsOf}
 use Rattle.rules.specs.Accuracy.{written}
 use Rattle.lists.specs.Membership.{In}
@@ -17,7 +17,7 @@ use Rattle.lists.proofs.Membership.{length-upFrom}
 use Rattle.lists.proofs.Tables.{cut-concat}
 use Rattle.rounding.specs.Good.{count}
 use Rattle.soundness.proofs.Cells.{is-child, length-child}
-use Rattle.accuracy.proofs.Axes.{length-averaged, axis-averaged}
+use Rattle.accuracy.proofs.Axes.{length-axis, axis-at, length-averaged, axis-averaged}
 
 pub length-means : (t : Topology) → length (means t) ≡ split t .vertexCount
 unfolding means split splitBy
@@ -54,11 +54,11 @@ unfolding roundsOf
 length-rounds zero m = refl
 length-rounds (suc k) m = ap suc (length-rounds k m)
 
--- the vertices after k rounds
-pub count-rounds : (k : ℕ) (m : Mesh) → count (topology m .vertexCount) (roundsOf k m) ≡ topology (refined k m) .vertexCount
-unfolding roundsOf refined
-count-rounds zero m = refl
-count-rounds (suc k) m =
+-- how many vertices there are after k rounds
+pub count-rounds : (k : ℕ) (m : Mesh) (a : ℕ) → count (length (axis a (m .vertices))) (roundsOf k m) ≡ topology (refined k m) .vertexCount
+unfolding roundsOf refined topology
+count-rounds zero m a = length-axis a (m .vertices)
+count-rounds (suc k) m a =
     let n = refined k m in length-means (topology n) ∙ ap (λ (t : Topology). t .vertexCount) (sym (topology-round n))
 
 -- each axis is what the rounds of means leave of it
@@ -75,3 +75,15 @@ pub whole-vertices : (k : ℕ) (m : Mesh) → length (m .vertices) % 3 ≡ 0 →
 unfolding refined round meshOf
 whole-vertices zero m h = h
 whole-vertices (suc k) m h = let n = refined k m in omega (arith, length-averaged (means (topology n)) (n .vertices))
+
+-- the coordinate of vertex v on axis a, in the flat table and by the rounds of means
+module _ (k : ℕ) (m : Mesh) (whole : length (m .vertices) % 3 ≡ 0) (a v : ℕ) (h : a < 3) (l : 3 * v + a < length (refined k m .vertices)) where
+  below : v < length (refined k m .vertices) / 3
+  below = omega (arith, whole-vertices k m whole)
+
+  pub written-below : v < count (length (axis a (m .vertices))) (roundsOf k m)
+  unfolding topology
+  written-below = rw (count-rounds k m a) below
+
+  pub written-at : coordinate (written (roundsOf k m) (axis a (m .vertices))) v ≡ getD (refined k m .vertices) (3 * v + a) (pos 0)
+  written-at = ap (λ (ys : List ℤ). coordinate ys v) (sym (refined-written k m a h)) ∙ axis-at a (refined k m .vertices) v h below
