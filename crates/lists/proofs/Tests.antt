@@ -34,6 +34,14 @@ and-both false q h = absurd (false≢true h)
 pub both-and : (p q : Bool) → p ≡ true → q ≡ true → (p && q) ≡ true
 both-and p q h k = rw (h, k)
 
+pub and-false : (p q : Bool) → (p && q) ≡ false → p ≡ true → q ≡ false
+and-false true q h k = h
+and-false false q h k = absurd (false≢true k)
+
+pub false-and : (p q : Bool) → (p ≡ true → q ≡ false) → (p && q) ≡ false
+false-and true q h = h refl
+false-and false q h = refl
+
 pub or-neither : (p q : Bool) → (p || q) ≡ false → (p ≡ false) × (q ≡ false)
 or-neither true q h = absurd (false≢true (sym h))
 or-neither false q h = (refl, h)

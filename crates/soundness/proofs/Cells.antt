@@ -2,7 +2,7 @@
 use mathlib.Core.Path.{_≡_, refl, sym, ap, _∙_, subst}
 use mathlib.Core.Logic.{inl, inr, ⊎-elim}
 use mathlib.Core.List.{List, [], _∷_, _++_, map, head-eq-of-cons-eq}
-use Prim.Native.Nat.{ℕ, _≤_, _<_, _^_}
+use Prim.Native.Nat.{ℕ, _≤_, _<_, _^_, zero-le}
 use native.Mathlib.Nat.{zero-add}
 use native.Mathlib.Omega.{arith}
 use lib.ListN.{length, length-map}
@@ -11,7 +11,7 @@ use Rattle.rules.specs.Lists.{concatMap, upFrom, Key, insert, keyOf}
 use Rattle.rules.specs.Mesh.{Kind, hex, quad, segment, point, kinds, corners, whole, singles, places, cellParts, Topology, cellsOf}
 use Rattle.rules.specs.Split.{cornersAt, keyAt, met, distinctParts, parts, fineVertex, child, children, splitBy, split}
 use Rattle.lists.specs.Membership.{In, Once}
-use Rattle.lists.proofs.Membership.{in-left, in-right, in-append, map-in, in-map, concatMap-in, in-concatMap, in-upFrom, length-upFrom, getD-run}
+use Rattle.lists.proofs.Membership.{in-left, in-right, in-append, map-in, in-map, concatMap-in, in-concatMap, in-upFrom, upFrom-in, length-upFrom, getD-run}
 use Rattle.lists.proofs.Once.{once-append, once-map, once-upFrom, length-within}
 use Rattle.lists.proofs.Keys.{in-key, key-in, length-key}
 use Rattle.lists.proofs.Distinct.{in-distinct, distinct-in, once-distinct}
@@ -93,6 +93,10 @@ inside-self r j i = i
 pub whole-below : (κ : Kind) (j : ℕ) → In j (whole κ) → j < corners κ
 unfolding whole
 whole-below κ j i = omega (arith, in-upFrom 0 (corners κ) j i)
+
+pub below-whole : (κ : Kind) (j : ℕ) → j < corners κ → In j (whole κ)
+unfolding whole
+below-whole κ j l = upFrom-in 0 (corners κ) j zero-le (omega arith)
 
 pub length-whole : (κ : Kind) → length (whole κ) ≡ corners κ
 unfolding whole

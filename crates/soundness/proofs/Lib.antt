@@ -13,3 +13,11 @@ pub mod FineCounts
 pub mod FineFaces
 -- A split of a sound topology is sound.
 pub mod SplitSound
+-- The numbers of the fine vertices.
+pub mod Numbers
+-- The sizes of a split, round after round.
+pub mod SplitSizes
+-- The checks and the statement agree.
+pub mod Checks
+-- Meshes, round after round.
+pub mod Rounds
