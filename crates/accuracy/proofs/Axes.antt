@@ -10,7 +10,7 @@ use Rattle.rules.specs.Means.{Mean, Round, coordinate, rounded}
 use Rattle.rules.specs.Averaging.{axis, averaged}
 use Rattle.lists.specs.Membership.{In}
 use Rattle.lists.proofs.Membership.{in-map, getD-map, concatMap-is}
-use Rattle.lists.proofs.Tables.{length-cut, length-concat, cut-concat, cut-at}
+use Rattle.lists.proofs.Tables.{length-cut, cut-concat, cut-at}
 
 pub length-axis : (a : ℕ) (xs : List ℤ) → length (axis a xs) ≡ length xs / 3
 unfolding axis
@@ -32,12 +32,6 @@ triples r xs c i = let m = in-map (moved xs) r c i in ap length (m .2)
 averaged-is : (r : Round) (xs : List ℤ) → averaged r xs ≡ concat (map (moved xs) r)
 unfolding averaged
 averaged-is r xs = concatMap-is (moved xs) r
-
-pub length-averaged : (r : Round) (xs : List ℤ) → length (averaged r xs) ≡ 3 * length r
-length-averaged r xs =
-    ap length (averaged-is r xs)
-    ∙ length-concat 3 (map (moved xs) r) (triples r xs)
-    ∙ ap (λ (n : ℕ). 3 * n) (length-map r (moved xs))
 
 -- each axis of the vertices after a round is the means of that axis, rounded
 pub axis-averaged : (a : ℕ) (r : Round) (xs : List ℤ) → a < 3 → axis a (averaged r xs) ≡ map (rounded (axis a xs)) r

@@ -15,3 +15,5 @@ pub mod Property3
 pub mod Sums
 -- Range: coordinates in range stay in range.
 pub mod Range
+-- Accepted: the rounds of a mesh that passes the checks.
+pub mod Accepted

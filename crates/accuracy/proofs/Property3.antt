@@ -1,28 +1,20 @@
 -- The third property holds of the rounds of a sound mesh.
-use mathlib.Core.Path.{_≡_, sym, ap, _∙_, subst}
-use mathlib.Core.List.{List}
-use Prim.Native.Nat.{ℕ, zero, suc, _+_, _*_, _/_, _%_, _<_}
-use native.Mathlib.Omega.{arith}
+use mathlib.Core.Path.{_≡_, subst}
+use Prim.Native.Nat.{ℕ, zero, suc, _+_, _*_, _%_}
 use lib.ListN.{length, getD}
 use lib.IntN.{ℤ, pos}
 use Rattle.rules.specs.Mesh.{Mesh, topology}
 use Rattle.rules.specs.Means.{coordinate}
 use Rattle.rules.specs.Averaging.{axis, refined, roundsOf}
-use Rattle.rules.specs.Accuracy.{written, exact, exactDivisor, NoRemainder, least, greatest}
+use Rattle.rules.specs.Accuracy.{exact, exactDivisor, NoRemainder, least, greatest}
 use Rattle.rounding.specs.Good.{GoodRounds}
 use Rattle.rounding.specs.Accuracy.{Accurate}
 use Rattle.rounding.proofs.Accurate.{accurate}
 use Rattle.soundness.specs.Sound.{Sound}
-use Rattle.soundness.proofs.SplitSound.{split-sound}
+use Rattle.soundness.proofs.Rounds.{refined-sound}
 use Rattle.accuracy.specs.Property3.{Property3}
-use Rattle.accuracy.proofs.Axes.{length-axis, axis-at}
-use Rattle.accuracy.proofs.Rounds.{topology-round, length-rounds, count-rounds, written-below, written-at}
+use Rattle.accuracy.proofs.Rounds.{length-rounds, count-rounds, written-below, written-at}
 use Rattle.accuracy.proofs.Means.{means-good}
-
-pub refined-sound : (k : ℕ) (m : Mesh) → Sound (topology m) → Sound (topology (refined k m))
-unfolding refined
-refined-sound zero m s = s
-refined-sound (suc k) m s = let n = refined k m in subst Sound (sym (topology-round n)) (split-sound (topology n) (refined-sound k m s))
 
 pub rounds-good : (k : ℕ) (m : Mesh) (a : ℕ) → Sound (topology m) → GoodRounds (length (axis a (m .vertices))) (roundsOf k m)
 unfolding roundsOf

@@ -1,9 +1,9 @@
--- The rounds of a sound mesh whose coordinates are in range leave them in range: refusal 12 is never given.
-use mathlib.Core.Path.{_≡_, refl, sym, ap, _∙_, subst}
+-- The rounds of a sound mesh whose coordinates are in range leave them in range.
+use mathlib.Core.Path.{_≡_, subst}
 use mathlib.Core.Bool.{false}
 use mathlib.Core.Logic.{_↔_}
 use mathlib.Core.List.{List}
-use Prim.Native.Nat.{ℕ, zero, suc, _+_, _*_, _/_, _%_, _<_}
+use Prim.Native.Nat.{ℕ, _+_, _*_, _/_, _%_, _<_}
 use native.Mathlib.Omega.{arith}
 use native.Mathlib.Nat.{mod-lt, div-add-mod}
 use lib.ListN.{length, getD}
@@ -11,9 +11,8 @@ use lib.IntN.{ℤ, pos, negsuc}
 use Rattle.rules.specs.Mesh.{Mesh, topology}
 use Rattle.rules.specs.Means.{coordinate}
 use Rattle.rules.specs.Averaging.{axis, refined, roundsOf}
-use Rattle.rules.specs.Accuracy.{written}
-use Rattle.rules.specs.Refusals.{outside, coordinateOutOfRange, strays}
-use Rattle.lists.proofs.Tests.{none-at, at-none, neither-or}
+use Rattle.rules.specs.Refusals.{outside, coordinateOutOfRange}
+use Rattle.lists.proofs.Tests.{none-at, at-none}
 use Rattle.integers.specs.Range.{InRange}
 use Rattle.integers.proofs.Range.{inside, range-order}
 use Rattle.rounding.proofs.Box.{Between, written-between}
@@ -26,9 +25,9 @@ abbrev pub AllInRange : List ℤ → Type 0
 AllInRange xs = (p : ℕ) → p < length xs → InRange (getD xs p (pos 0))
 
 -- refusal 3 is given unless all are in range
-pub all-inside : (m : Mesh) → (coordinateOutOfRange m ≡ false) ↔ AllInRange (m .vertices)
+pub all-in-range : (m : Mesh) → (coordinateOutOfRange m ≡ false) ↔ AllInRange (m .vertices)
 unfolding coordinateOutOfRange
-all-inside m = (
+all-in-range m = (
   λ t p l. inside (getD (m .vertices) p (pos 0)) .0 (none-at outside (m .vertices) (pos 0) t p l),
   λ r. at-none outside (m .vertices) (pos 0) (λ p l. inside (getD (m .vertices) p (pos 0)) .1 (r p l)),
 )
@@ -58,9 +57,3 @@ module _ (m : Mesh) (s : Sound (topology m)) (whole : length (m .vertices) % 3 �
       let there : 3 * v + a < length ws = rw place l in
       let w = written-between (length xs) lo hi (roundsOf k m) xs (rounds-good k m a s) (first a h) v (written-below k m whole a v h there) in
       rw place at (range-order (getD ws (3 * v + a) (pos 0)) .1 (subst (Between lo hi) (written-at k m whole a v h there) w))
-
-  pub never-strays : (k : ℕ) → strays k m ≡ false
-  unfolding strays
-  never-strays zero = refl
-  never-strays (suc k) =
-      neither-or (strays k m) (coordinateOutOfRange (refined (suc k) m)) (never-strays k) (all-inside (refined (suc k) m) .1 (refined-range (suc k)))

@@ -1,53 +1,23 @@
--- The topology and the coordinates of a mesh after some rounds.
+-- The coordinates of a mesh after some rounds, axis by axis.
 use mathlib.Core.Path.{_≡_, refl, sym, ap, _∙_}
 use mathlib.Core.List.{List, map}
 use Prim.Native.Nat.{ℕ, zero, suc, _+_, _*_, _/_, _%_, _<_}
 use native.Mathlib.Omega.{arith}
-use native.Mathlib.Nat.{mul-div-cancel-left}
-use lib.ListN.{length, getD, length-map}
+use lib.ListN.{length, getD}
 use lib.IntN.{ℤ, pos}
-use Rattle.rules.specs.Lists.{concat, cut, upFrom}
-use Rattle.rules.specs.Mesh.{Mesh, Kind, hex, quad, segment, point, corners, Topology, topology, meshOf, cellsOf}
-use Rattle.rules.specs.Split.{parts, splitBy, split}
+use Rattle.rules.specs.Mesh.{Mesh, Topology, topology, meshOf}
+use Rattle.rules.specs.Split.{splitBy, split}
 use Rattle.rules.specs.Means.{coordinate, rounded}
-use Rattle.rules.specs.Averaging.{meanAt, means, axis, averaged, round, refined, roundsOf}
+use Rattle.rules.specs.Averaging.{means, axis, round, refined, roundsOf}
 use Rattle.rules.specs.Accuracy.{written}
-use Rattle.lists.specs.Membership.{In}
-use Rattle.lists.proofs.Membership.{length-upFrom}
-use Rattle.lists.proofs.Tables.{cut-concat}
 use Rattle.rounding.specs.Good.{count}
-use Rattle.soundness.proofs.Cells.{is-child, length-child}
-use Rattle.accuracy.proofs.Axes.{length-axis, axis-at, length-averaged, axis-averaged}
+use Rattle.soundness.proofs.Rounds.{length-averaged, length-means, round-topology}
+use Rattle.accuracy.proofs.Axes.{length-axis, axis-at, axis-averaged}
 
-pub length-means : (t : Topology) → length (means t) ≡ split t .vertexCount
-unfolding means split splitBy
-length-means t =
-    let n = length (parts t) in
-    length-map (upFrom 0 n) (meanAt (parts t) (splitBy (parts t) t)) ∙ length-upFrom 0 n
-
--- ---- the cells of a round are those of the split
-
-sized : (t : Topology) (κ : Kind) (c : List ℕ) → In c (cellsOf (split t) κ) → length c ≡ corners κ
-sized t κ c i = let p = is-child t κ c i in ap length (p .is) ∙ length-child t κ (p .parent) (p .number)
-
-some : (κ : Kind) → 0 < corners κ
-some hex = omega arith
-some quad = omega arith
-some segment = omega arith
-some point = omega arith
-
-same-cells : (t : Topology) (κ : Kind) → cut (corners κ) (concat (cellsOf (split t) κ)) ≡ cellsOf (split t) κ
-same-cells t κ = cut-concat (corners κ) (cellsOf (split t) κ) (some κ) (sized t κ)
-
-pub topology-round : (m : Mesh) → topology (round m) ≡ split (topology m)
-unfolding topology round meshOf
-topology-round m =
-    let t = topology m in
-    let v : length (averaged (means t) (m .vertices)) / 3 ≡ split t .vertexCount =
-    ap (λ (n : ℕ). n / 3) (length-averaged (means t) (m .vertices) ∙ ap (λ (n : ℕ). 3 * n) (length-means t)) ∙ mul-div-cancel-left (split t .vertexCount) (omega arith) in
-    rw (v, same-cells t hex, same-cells t quad, same-cells t segment, same-cells t point)
-
--- ---- several rounds
+-- a round has a mean for each fine vertex
+pub vertex-means : (t : Topology) → length (means t) ≡ split t .vertexCount
+unfolding split splitBy
+vertex-means t = length-means t
 
 pub length-rounds : (k : ℕ) (m : Mesh) → length (roundsOf k m) ≡ k
 unfolding roundsOf
@@ -59,7 +29,7 @@ pub count-rounds : (k : ℕ) (m : Mesh) (a : ℕ) → count (length (axis a (m .
 unfolding roundsOf refined topology
 count-rounds zero m a = length-axis a (m .vertices)
 count-rounds (suc k) m a =
-    let n = refined k m in length-means (topology n) ∙ ap (λ (t : Topology). t .vertexCount) (sym (topology-round n))
+    let n = refined k m in vertex-means (topology n) ∙ ap (λ (t : Topology). t .vertexCount) (sym (round-topology n))
 
 -- each axis is what the rounds of means leave of it
 pub refined-written : (k : ℕ) (m : Mesh) (a : ℕ) → a < 3 → axis a (refined k m .vertices) ≡ written (roundsOf k m) (axis a (m .vertices))

@@ -1,22 +1,26 @@
 -- No sum of a division overflows: a bound on the divisor, and one on the sum of biased coordinates, of any accepted mesh.
-use mathlib.Core.Path.{_≡_, refl, sym, ap, _∙_, subst}
+use mathlib.Core.Path.{_≡_, sym, subst}
 use mathlib.Core.Bool.{Bool, true, false, cond}
 use mathlib.Core.List.{List, [], _∷_}
 use Prim.Native.Nat.{ℕ, suc, _*_, _^_, _≤_, _<_}
 use native.Mathlib.Omega.{arith}
-use native.Mathlib.Nat.{mul-le-mul, mul-le-mul-left, le-trans}
+use native.Mathlib.Nat.{mul-le-mul, le-trans}
 use lib.Pow.{pow-mono}
 use lib.ListN.{length}
 use Rattle.rules.specs.Lists.{keep, has}
-use Rattle.rules.specs.Mesh.{Kind, hex, quad, segment, point, dimension, Topology, cellsOf}
+use Rattle.rules.specs.Mesh.{Mesh, Kind, hex, quad, segment, point, dimension, Topology, topology, cellsOf}
 use Rattle.rules.specs.Split.{split}
 use Rattle.rules.specs.Means.{meanOf, noMean}
-use Rattle.rules.specs.Averaging.{holding, counted, rank, valence, means}
+use Rattle.rules.specs.Averaging.{holding, rank, valence, means}
+use Rattle.rules.specs.Counts.{countsOf}
+use Rattle.rules.specs.Refusals.{countOutOfRange}
 use Rattle.lists.proofs.Each.{each-at}
+use Rattle.lists.proofs.Tables.{length-cut}
 use Rattle.rounding.specs.Good.{GoodMean}
 use Rattle.rounding.proofs.Draws.{natTotal, natTotal-le}
 use Rattle.soundness.specs.Sound.{Sound}
-use Rattle.accuracy.proofs.Rounds.{length-means}
+use Rattle.soundness.proofs.Rounds.{in-range}
+use Rattle.accuracy.proofs.Rounds.{vertex-means}
 use Rattle.accuracy.proofs.Counted.{ranked}
 use Rattle.accuracy.proofs.Means.{divisor-is, means-good}
 
@@ -46,6 +50,17 @@ pub valence-below : (t : Topology) (v : ℕ) → valence t v ≤ length (cellsOf
 unfolding valence holding
 valence-below t v = let r = ranked t v in rw (r .cells) (length-keep (has v) (cellsOf t (r .kind)))
 
+-- and so in the range of a table
+pub valence-few : (m : Mesh) → countOutOfRange m ≡ false → (v : ℕ) → valence (topology m) v ≤ 250_000
+unfolding countOutOfRange countsOf topology
+valence-few m h v = le-trans (valence-below (topology m) v) (at (ranked (topology m) v .kind))
+  where
+    at : (κ : Kind) → length (cellsOf (topology m) κ) ≤ 250_000
+    at hex = rw (length-cut 8 (m .hexes)) (in-range (countsOf m) h .hexes)
+    at quad = rw (length-cut 4 (m .quads)) (in-range (countsOf m) h .quads)
+    at segment = rw (length-cut 2 (m .segments)) (in-range (countsOf m) h .segments)
+    at point = rw (length-cut 1 (m .points)) (in-range (countsOf m) h .points)
+
 -- ---- the divisor and the sum of one division
 
 module _ (t : Topology) (s : Sound t) (f : ℕ) (l : f < split t .vertexCount) (few : valence (split t) f ≤ 250_000) where
@@ -59,6 +74,6 @@ module _ (t : Topology) (s : Sound t) (f : ℕ) (l : f < split t .vertexCount) (
   pub sum-below : (e : ℕ → ℕ) → ((u : ℕ) → u < t .vertexCount → e u < 2 ^ 30) → natTotal (meanOf (means t) f .draws) e < 2 ^ 54
   sum-below e h =
       let m = meanOf (means t) f in
-      let g = each-at (GoodMean (t .vertexCount)) (means t) noMean f (means-good t s) (rw (length-means t) l) in
+      let g = each-at (GoodMean (t .vertexCount)) (means t) noMean f (means-good t s) (rw (vertex-means t) l) in
       let a = natTotal-le (t .vertexCount) (2 ^ 30) e (m .draws) (g .each) (λ u k. omega (arith, h u k)) in
       omega (arith, a, g .whole, divisor-below)
