@@ -1,0 +1,2 @@
+-- Front: the mesh at the front of tables.
+pub mod Front
