@@ -27,6 +27,13 @@ pub is-false : (b : Bool) → (b ≡ true → ⊥) → b ≡ false
 is-false true h = absurd (h refl)
 is-false false h = refl
 
+-- tests that fail together are equal
+pub false-together : (a b : Bool) → (a ≡ false → b ≡ false) → (b ≡ false → a ≡ false) → a ≡ b
+false-together true true f g = refl
+false-together true false f g = g refl
+false-together false true f g = sym (f refl)
+false-together false false f g = refl
+
 pub and-both : (p q : Bool) → (p && q) ≡ true → (p ≡ true) × (q ≡ true)
 and-both true q h = (refl, h)
 and-both false q h = absurd (false≢true h)
