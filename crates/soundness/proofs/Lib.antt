@@ -25,3 +25,5 @@ pub mod Rounds
 pub mod Opposite
 -- Check 7 by keys and one more number a face.
 pub mod Across
+-- A mesh with cells of each kind, to which the laws apply.
+pub mod Instance
