@@ -1,7 +1,7 @@
 -- Check 7 by keys and one more number a face: the corner across its least corner. Assumes nothing.
 use mathlib.Core.Path.{_≡_, refl, sym, ap, _∙_, subst}
 use mathlib.Core.Bool.{Bool, true, false, not, cond, _&&_}
-use mathlib.Core.Logic.{inl, inr, _↔_}
+use mathlib.Core.Logic.{_⊎_, inl, inr, _↔_}
 use mathlib.Core.List.{List}
 use Prim.Native.Nat.{ℕ, _<_, _≤_}
 use native.Mathlib.Omega.{arith}
@@ -18,7 +18,7 @@ use Rattle.lists.proofs.Once.{once-map, once-place}
 use Rattle.lists.proofs.Tests.{false-together, and-false, false-and, none-in, in-none, repeats-once-numbers}
 use Rattle.lists.proofs.Keys.{same-members, same-eq, eq-same}
 use Rattle.soundness.specs.Sound.{corner}
-use Rattle.soundness.specs.Across.{across}
+use Rattle.soundness.specs.Across.{lesser, greater, across}
 use Rattle.soundness.proofs.CellParts.{placed, once-part, is-part, size}
 use Rattle.soundness.proofs.Cells.{in-met, length-corners}
 use Rattle.soundness.proofs.Checks.{Sized, astray, ring-kept, kept-ring, mismatched-is, none-cells, placed-below}
@@ -32,9 +32,17 @@ record Least (f : List ℕ) (x : ℕ) : Type 0 where
   least : (j : ℕ) → In j four → corner f place ≤ corner f j
   is : x ≡ corner f (opposite place)
 
+-- two numbers, in order
+sorted : (a b : ℕ) → (lesser a b ≤ a) × (lesser a b ≤ b) × (((lesser a b ≡ a) × (greater a b ≡ b)) ⊎ ((lesser a b ≡ b) × (greater a b ≡ a)))
+sorted a b = go (leb a b) refl
+  where
+    go : (p : Bool) → leb a b ≡ p → (cond p a b ≤ a) × (cond p a b ≤ b) × (((cond p a b ≡ a) × (cond p b a ≡ b)) ⊎ ((cond p a b ≡ b) × (cond p b a ≡ a)))
+    go true h = (omega arith, omega (arith, leb-true a b h), inl (refl, refl))
+    go false h = (omega (arith, leb-false a b h), omega arith, inr (refl, refl))
+
 least-of : (f : List ℕ) → Least f (across f)
 unfolding across
-least-of f = go (leb a c) refl (leb b d) refl (ltb (cond (leb a c) a c) (cond (leb b d) b d)) refl
+least-of f = go (ltb (lesser a c) (lesser b d)) refl (sorted a c) (sorted b d)
   where
     a : ℕ
     a = corner f 0
@@ -54,15 +62,19 @@ least-of f = go (leb a c) refl (leb b d) refl (ltb (cond (leb a c) a c) (cond (l
     at x h j (inr (inr (inl e))) = subst (λ (j : ℕ). x ≤ corner f j) (sym e) (h .2)
     at x h j (inr (inr (inr (inl e)))) = subst (λ (j : ℕ). x ≤ corner f j) (sym e) (h .3)
 
-    go : (p : Bool) → leb a c ≡ p → (q : Bool) → leb b d ≡ q → (r : Bool) → ltb (cond p a c) (cond q b d) ≡ r → Least f (cond r (cond p c a) (cond q d b))
-    go true h true k true l = record { place = 0; placed = inl refl; least = at a (omega (arith, leb-true a c h, leb-true b d k, ltb-true a b l)); is = refl }
-    go true h false k true l = record { place = 0; placed = inl refl; least = at a (omega (arith, leb-true a c h, leb-false b d k, ltb-true a d l)); is = refl }
-    go false h true k true l = record { place = 2; placed = inr (inr (inl refl)); least = at c (omega (arith, leb-false a c h, leb-true b d k, ltb-true c b l)); is = refl }
-    go false h false k true l = record { place = 2; placed = inr (inr (inl refl)); least = at c (omega (arith, leb-false a c h, leb-false b d k, ltb-true c d l)); is = refl }
-    go true h true k false l = record { place = 1; placed = inr (inl refl); least = at b (omega (arith, leb-true a c h, leb-true b d k, ltb-false a b l)); is = refl }
-    go false h true k false l = record { place = 1; placed = inr (inl refl); least = at b (omega (arith, leb-false a c h, leb-true b d k, ltb-false c b l)); is = refl }
-    go true h false k false l = record { place = 3; placed = inr (inr (inr (inl refl))); least = at d (omega (arith, leb-true a c h, leb-false b d k, ltb-false a d l)); is = refl }
-    go false h false k false l = record { place = 3; placed = inr (inr (inr (inl refl))); least = at d (omega (arith, leb-false a c h, leb-false b d k, ltb-false c d l)); is = refl }
+    go : (r : Bool) → ltb (lesser a c) (lesser b d) ≡ r → (lesser a c ≤ a) × (lesser a c ≤ c) × (((lesser a c ≡ a) × (greater a c ≡ c)) ⊎ ((lesser a c ≡ c) × (greater a c ≡ a))) → (lesser b d ≤ b) × (lesser b d ≤ d) × (((lesser b d ≡ b) × (greater b d ≡ d)) ⊎ ((lesser b d ≡ d) × (greater b d ≡ b))) → Least f (across f)
+    go true l (h, k, inl e) q =
+        let n = ltb-true (lesser a c) (lesser b d) l in
+        record { place = 0; placed = inl refl; least = at a (omega arith); is = rw l (e .1) }
+    go true l (h, k, inr e) q =
+        let n = ltb-true (lesser a c) (lesser b d) l in
+        record { place = 2; placed = inr (inr (inl refl)); least = at c (omega arith); is = rw l (e .1) }
+    go false l p (h, k, inl e) =
+        let n = ltb-false (lesser a c) (lesser b d) l in
+        record { place = 1; placed = inr (inl refl); least = at b (omega arith); is = rw l (e .1) }
+    go false l p (h, k, inr e) =
+        let n = ltb-false (lesser a c) (lesser b d) l in
+        record { place = 3; placed = inr (inr (inr (inl refl))); least = at d (omega arith); is = rw l (e .1) }
 
 -- the least corner of f is not below that of a face with the same corners
 least-le : (f g : List ℕ) → Quad f → Quad g → keyOf f ≡ keyOf g → (p : Least f (across f)) (q : Least g (across g)) → corner g (q .place) ≤ corner f (p .place)
