@@ -27,3 +27,5 @@ pub mod Opposite
 pub mod Across
 -- A mesh with cells of each kind, to which the laws apply.
 pub mod Instance
+-- Rank and valence.
+pub mod Valence
