@@ -1,0 +1,5 @@
+-- What is claimed of the rounds of a mesh.
+-- DrawsOn: what a fine vertex draws on.
+pub mod DrawsOn
+-- Property3: the third property.
+pub mod Property3
