@@ -15,7 +15,8 @@ use Rattle.rules.specs.Mesh.{Mesh, hex, quad, segment, point, Topology, topolog
 use Rattle.rules.specs.Split.{parts, splitBy, split}
 use Rattle.rules.specs.Means.{Mean, Round, rounded}
 use Rattle.rules.specs.Averaging.{meanAt, means, axis, averaged, round, refined}
-use Rattle.rules.specs.Counts.{Sizes, sizes, nextSizes, sizesAfter, countsOf, finishedCounts, outOfRange}
+use Rattle.rules.specs.declared.Sizes.{Sizes}
+use Rattle.rules.specs.Counts.{sizes, nextSizes, sizesAfter, countsIn, countsOf, finishedCounts, outOfRange}
 use Rattle.rules.specs.Refusals.{partialEntry, countOutOfRange, coordinateOutOfRange, tooLarge}
 use Rattle.lists.proofs.Membership.{length-upFrom}
 use Rattle.lists.proofs.Once.{length-concatMap}
@@ -89,7 +90,7 @@ abbrev pub tables : Sizes → Counts
 tables s = record { vertices = s .vertices; hexes = s .hexes; quads = s .quads; segments = s .segments; points = s .points }
 
 pub finished-tables : (n : ℕ) (t : Topology) → finishedCounts n t ≡ tables (sizesAfter n (sizes t))
-unfolding finishedCounts
+unfolding finishedCounts countsIn
 finished-tables n t = refl
 
 -- the counts of a mesh's tables are those of its topology
@@ -133,7 +134,7 @@ range-in c r =
 
 -- Sizes never fall: where the finished counts are in their ranges, so are those after fewer rounds.
 pub tooLarge-before : (k n : ℕ) (t : Topology) → k ≤ n → 0 < t .vertexCount → tooLarge n t ≡ false → tooLarge k t ≡ false
-unfolding tooLarge sizes finishedCounts
+unfolding tooLarge sizes finishedCounts countsIn
 tooLarge-before k n t i l h =
     let s = sizes t in
     let a = after-grows k s in

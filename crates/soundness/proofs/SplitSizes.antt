@@ -9,7 +9,8 @@ use lib.ListN.{length, length-map, length-append}
 use Rattle.rules.specs.Lists.{keyOf}
 use Rattle.rules.specs.Mesh.{Kind, hex, quad, segment, point, corners, whole, singles, Topology, cellsOf}
 use Rattle.rules.specs.Split.{distinctParts, edges, faces, parts, children, splitBy, split}
-use Rattle.rules.specs.Counts.{Sizes, sizes, nextSizes, sizesAfter}
+use Rattle.rules.specs.declared.Sizes.{Sizes}
+use Rattle.rules.specs.Counts.{sizes, nextSizes, sizesAfter}
 use Rattle.lists.proofs.Once.{length-concatMap}
 use Rattle.soundness.specs.Sound.{Sound}
 use Rattle.soundness.specs.Growth.{AtMost}

@@ -1,7 +1,7 @@
 -- Sizes and counts, compared with each other and with the ranges.
 use Prim.Native.Nat.{_<_, _≤_}
 use Rattle.rules.specs.declared.Counts.{Counts}
-use Rattle.rules.specs.Counts.{Sizes}
+use Rattle.rules.specs.declared.Sizes.{Sizes}
 
 -- no size in a is above the one in b
 pub record AtMost (a b : Sizes) : Type 0 where
