@@ -17,3 +17,5 @@ pub mod Sums
 pub mod Range
 -- Accepted: the rounds of a mesh that passes the checks.
 pub mod Accepted
+-- Instances: the third property at sample meshes.
+pub mod Instances

@@ -3,3 +3,5 @@
 pub mod DrawsOn
 -- Property3: the third property.
 pub mod Property3
+-- Instances: the third property at sample meshes.
+pub mod Instances

@@ -188,7 +188,7 @@ module _ (t : Topology) (s : Sound t) where
       let r = v .1 .2 .0 in
       let o = v .1 .2 .2 in
       let e : keyAt (childAt t κ (c .parent) n) ps ≡ fineKey t x p r = child-key t s x n ps p r w (v .0) (o .1 .1) in
-      let f = smallest-parts t s x n ps (c .placed) w in
+      let f = smallest-parts κ n ps (c .placed) w in
       subst (λ (y : Key). In y (listed k)) (sym (a .3 ∙ ap (λ (c : List ℕ). keyAt c ps) (c .is) ∙ e))
       (fine-listed k ki x p r (f p (v .1 .1)) (f r (v .1 .2 .1)) (o .0) (o .1 .0))
 

@@ -7,7 +7,7 @@ use native.Mathlib.Omega.{arith}
 use lib.ListN.{length, getD, length-map}
 use Rattle.rules.specs.Lists.{Key, keyOf, same}
 use Rattle.rules.specs.Mesh.{quadEdges, cellParts, smallest, Topology}
-use Rattle.rules.specs.Split.{cornersAt, keyAt, met, split}
+use Rattle.rules.specs.Split.{cornersAt, keyAt, met, parts, split}
 use Rattle.rules.specs.Refusals.{ring}
 use Rattle.lists.specs.Membership.{In}
 use Rattle.lists.proofs.Membership.{map-in, in-map, getD-in, getD-map}
@@ -60,9 +60,9 @@ module _ (t : Topology) (s : Sound t) where
         at = x;
         l = map (smallest κ (c .number)) ps;
         four = length-map ps (smallest κ (c .number)) ∙ size κ 2 (inr (inr (inl refl))) ps (a .2);
-        all-parts = smallest-parts t s x (c .number) ps (c .placed) w;
+        all-parts = smallest-parts κ (c .number) ps (c .placed) w;
         near = neighbours κ (c .number) (c .placed) ps (a .2);
-        is = a .3 ∙ ap (λ (z : List ℕ). cornersAt z ps) (c .is) ∙ corners-child t s x (c .number) ps w;
+        is = a .3 ∙ ap (λ (z : List ℕ). cornersAt z ps) (c .is) ∙ corners-child (parts t) κ (c .parent) (c .number) ps w;
       }
 
   -- a part at a corner of a face, in another face of the same corners

@@ -8,14 +8,14 @@ use native.Mathlib.Nat.{zero-add}
 use native.Mathlib.Omega.{arith}
 use lib.ListN.{length, getD, length-map}
 use Rattle.rules.specs.Lists.{any, concat, concatMap, upFrom, has, Key, keyOf, indexOf, distinct}
-use Rattle.rules.specs.Mesh.{hex, point, whole, singles, hexEdges, hexFaces, byDimension, places, cellParts, firstHolding, smallest, Topology}
+use Rattle.rules.specs.Mesh.{Kind, hex, quad, segment, point, corners, whole, singles, byDimension, places, cellParts, firstHolding, smallest, Topology}
 use Rattle.rules.specs.Split.{cornersAt, keyAt, met, distinctParts, edges, faces, parts, fineVertex, child}
 use Rattle.lists.specs.Membership.{In}
 use Rattle.lists.proofs.Membership.{in-map, map-same, length-upFrom, getD-run, getD-in, getD-map}
 use Rattle.lists.proofs.Once.{once-map, once-upFrom}
 use Rattle.lists.proofs.Distinct.{index-at, index-left, index-right, distinct-once}
 use Rattle.soundness.specs.Sound.{corner, Sound}
-use Rattle.soundness.specs.Numbers.{start}
+use Rattle.soundness.specs.Numbers.{start, numberOf}
 use Rattle.soundness.proofs.CellParts.{power}
 use Rattle.soundness.proofs.Cells.{CellOf, fine, childAt, parts-in, one-key, corners-whole, key-whole, part-size, upper, tops}
 
@@ -25,17 +25,12 @@ pub is-hex : In (whole hex) (places hex 3)
 unfolding places byDimension
 is-hex = inl refl
 
-is-place : (j : ℕ) → In j (upFrom 0 8) → In j (whole hex)
-unfolding whole
-is-place j i = i
-
-is-edge : (p : List ℕ) → In p hexEdges → In p (places hex 1)
-unfolding places byDimension
-is-edge p i = i
-
-is-face : (p : List ℕ) → In p hexFaces → In p (places hex 2)
-unfolding places byDimension
-is-face p i = i
+by-dimension : (κ : Kind) → cellParts κ ≡ singles (corners κ) ++ (places κ 1 ++ (places κ 2 ++ places κ 3))
+unfolding cellParts places byDimension singles upFrom concat
+by-dimension hex = refl
+by-dimension quad = refl
+by-dimension segment = refl
+by-dimension point = refl
 
 module _ {A : Type 0} where
   concatMap-one : (f : A → Key) (xs : List A) → concatMap (λ (x : A). f x ∷ []) xs ≡ map f xs
@@ -108,7 +103,7 @@ module _ (t : Topology) (k : Key) (d : ℕ) (di : In d upper) (i : In k (distinc
   number-part = number-at d di refl
 
 -- the same of a part of a cell
-pub fine-upper : (t : Topology) (x : CellOf t) (d : ℕ) → In d upper → (p : List ℕ) → In p (places (x .kind) d) → fine t (x .cell) p ≡ start t d + indexOf (keyAt (x .cell) p) (distinctParts t d)
+pub fine-upper : (t : Topology) (x : CellOf t) (d : ℕ) → In d upper → (p : List ℕ) → In p (places (x .kind) d) → fine t (x .cell) p ≡ numberOf t (x .cell) d p
 unfolding fineVertex
 fine-upper t x d di p pi = number-part t (keyAt (x .cell) p) d di (parts-in t d x p pi)
 
@@ -153,23 +148,24 @@ module _ (t : Topology) (s : Sound t) where
       ∙ ap (λ (z : ℕ). start t 3 + z)
       (ap (indexOf (keyAt c (whole hex))) hexes-listed ∙ ap (λ (k : Key). indexOf k (map keyOf (t .hexes))) (sym e) ∙ index-at (map keyOf (t .hexes)) (s .undoubled hex) h (omega arith))
 
-  -- The fine vertices of hex h, in the order of its 27 parts: its corners, its edges, its faces, its centre. This is what a kernel stores.
-  pub hex-vertices : (h : ℕ) → h < length (t .hexes) → (c : List ℕ) → c ≡ getD (t .hexes) h [] → map (fine t c) (cellParts hex) ≡ c ++ (map (λ (p : List ℕ). start t 1 + indexOf (keyAt c p) (edges t)) hexEdges ++ (map (λ (p : List ℕ). start t 2 + indexOf (keyAt c p) (faces t)) hexFaces ++ ((start t 3 + h) ∷ [])))
-  unfolding cellParts byDimension singles concat whole cornersAt
-  hex-vertices h l c e =
-      map-append (fine t c) (singles 8) (hexEdges ++ (hexFaces ++ (whole hex ∷ [])))
+  -- The fine vertices of a cell, in the order of its parts: its corners, its edges, its faces, its body. This is what a kernel stores.
+  pub cell-vertices : (x : CellOf t) → map (fine t (x .cell)) (cellParts (x .kind)) ≡ x .cell ++ (map (numberOf t (x .cell) 1) (places (x .kind) 1) ++ (map (numberOf t (x .cell) 2) (places (x .kind) 2) ++ map (numberOf t (x .cell) 3) (places (x .kind) 3)))
+  unfolding singles whole cornersAt
+  cell-vertices x =
+      let κ = x .kind in
+      let c = x .cell in
+      let f = fine t c in
+      ap (map f) (by-dimension κ)
+      ∙ map-append f (singles (corners κ)) (places κ 1 ++ (places κ 2 ++ places κ 3))
       ∙ two
-      (map-map (fine t c) (λ (j : ℕ). j ∷ []) (upFrom 0 8) ∙ map-same (λ (j : ℕ). fine t c (j ∷ [])) (corner c) (upFrom 0 8) (λ j i. fine-corner x j (is-place j i)) ∙ corners-whole hex c (s .sized hex c (x .listed)))
-      (map-append (fine t c) hexEdges (hexFaces ++ (whole hex ∷ []))
+      (map-map f (λ (j : ℕ). j ∷ []) (whole κ) ∙ map-same (λ (j : ℕ). f (j ∷ [])) (corner c) (whole κ) (λ j i. fine-corner x j i) ∙ corners-whole κ c (s .sized κ c (x .listed)))
+      (map-append f (places κ 1) (places κ 2 ++ places κ 3)
       ∙ two
-      (map-same (fine t c) (λ (p : List ℕ). start t 1 + indexOf (keyAt c p) (edges t)) hexEdges (λ p i. fine-upper t x 1 (inl refl) p (is-edge p i)))
-      (map-append (fine t c) hexFaces (whole hex ∷ [])
+      (map-same f (numberOf t c 1) (places κ 1) (λ p i. fine-upper t x 1 (inl refl) p i))
+      (map-append f (places κ 2) (places κ 3)
       ∙ two
-      (map-same (fine t c) (λ (p : List ℕ). start t 2 + indexOf (keyAt c p) (faces t)) hexFaces (λ p i. fine-upper t x 2 (inr (inl refl)) p (is-face p i)))
-      (ap (λ (n : ℕ). n ∷ []) (ap (λ (c : List ℕ). fine t c (whole hex)) e ∙ fine-hex h l))))
+      (map-same f (numberOf t c 2) (places κ 2) (λ p i. fine-upper t x 2 (inr (inl refl)) p i))
+      (map-same f (numberOf t c 3) (places κ 3) (λ p i. fine-upper t x 3 (inr (inr (inl refl))) p i))))
     where
-      x : CellOf t
-      x = record { kind = hex; cell = c; listed = subst (λ (z : List ℕ). In z (t .hexes)) (sym e) (getD-in (t .hexes) h [] l) }
-
       two : {a b c d : List ℕ} → a ≡ b → c ≡ d → a ++ c ≡ b ++ d
       two p q = cc

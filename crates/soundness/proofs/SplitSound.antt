@@ -94,7 +94,7 @@ module _ (t : Topology) (s : Sound t) where
         placed = j .1;
         is =
             sym (index-at (parts t) (once-numbered t) v l) ∙ ap (λ (z : Key). indexOf z (parts t)) (a .3 ∙ ap (keyAt (x .cell)) (sym (j .2)))
-            ∙ sym (corner-child t s x (r .0) (j .0) (j .1));
+            ∙ sym (corner-child (parts t) (x .kind) (x .cell) (r .0) (j .0) (j .1));
       }
 
   -- ---- corners of fine cells
@@ -102,7 +102,7 @@ module _ (t : Topology) (s : Sound t) where
   corner-is : (κ : Kind) (c : List ℕ) (i : In c (cellsOf (split t) κ)) (j : ℕ) → In j (whole κ) → corner c j ≡ fine t (is-child t κ c i .parent) (smallest κ (is-child t κ c i .number) j)
   corner-is κ c i j h =
       let a = is-child t κ c i in
-      ap (λ (z : List ℕ). corner z j) (a .is) ∙ corner-child t s (record { kind = κ; cell = a .parent; listed = a .listed }) (a .number) j h
+      ap (λ (z : List ℕ). corner z j) (a .is) ∙ corner-child (parts t) κ (a .parent) (a .number) j h
 
   pub split-sound : Sound (split t)
   unfolding split splitBy fineVertex
