@@ -6,7 +6,8 @@ use Prim.Native.Nat.{ℕ, _*_, _≤_}
 use lib.ListN.{length}
 use Rattle.rules.specs.declared.Sizes.{Sizes}
 use Rattle.rules.specs.Mesh.{Mesh, topology}
-use Rattle.rules.specs.Counts.{sizes, nextSizes, countsIn, outOfRange}
+use Rattle.rules.specs.Counts.{sizes, nextSizes, sizesAfter, countsIn, outOfRange}
+use Rattle.rules.specs.Refusals.{tooLarge}
 use Rattle.soundness.specs.Accepted.{Accepted}
 use Rattle.refine.specs.Front.{Room}
 
@@ -19,3 +20,13 @@ pub record Ready (m : Mesh) (s : Sizes) (out : Mesh) (words longs : List ℕ) : 
   pub room : Room (nextSizes s) out
   pub enoughWords : 8 * nextSizes s .vertices ≤ length words
   pub enoughLongs : 3 * nextSizes s .vertices ≤ length longs
+
+-- What some rounds need: a mesh that passed the checks, its sizes, and room for the finished mesh.
+pub record ReadyFor (rounds : ℕ) (m : Mesh) (s : Sizes) (out work : Mesh) (words longs : List ℕ) : Type 0 where
+  pub accepted : Accepted m
+  pub sized : s ≡ sizes (topology m)
+  pub small : tooLarge rounds (topology m) ≡ false
+  pub room : Room (sizesAfter rounds s) out
+  pub workingRoom : Room (sizesAfter rounds s) work
+  pub enoughWords : 8 * sizesAfter rounds s .vertices ≤ length words
+  pub enoughLongs : 3 * sizesAfter rounds s .vertices ≤ length longs

@@ -18,8 +18,7 @@ round-front-requires c κs =
     let a = s .args in
     let out = mesh (now (a .ox)) (now (a .oh)) (now (a .oq)) (now (a .os)) (now (a .op)) in
     let work = mesh (now (a .wx)) (now (a .wh)) (now (a .wq)) (now (a .ws)) (now (a .wp)) in
-    let e = p .copy-front .ensures in
-    (
+    let e = p .copy-front .ensures in (
       subst (λ (w : Mesh). Room (a .sizes) w) (sym e) (room-copied (a .sizes) work out (s .pre .0)),
       subst (λ (m : Mesh). Ready m (a .sizes) out (now (a .words)) (now (a .longs))) (sym (ap (front (a .sizes)) e ∙ front-copied (a .sizes) work out (s .pre .1 .0))) (s .pre .1 .1),
     )
