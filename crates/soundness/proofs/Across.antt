@@ -32,13 +32,14 @@ record Least (f : List ℕ) (x : ℕ) : Type 0 where
   least : (j : ℕ) → In j four → corner f place ≤ corner f j
   is : x ≡ corner f (opposite place)
 
--- two numbers, in order
-sorted : (a b : ℕ) → (lesser a b ≤ a) × (lesser a b ≤ b) × (((lesser a b ≡ a) × (greater a b ≡ b)) ⊎ ((lesser a b ≡ b) × (greater a b ≡ a)))
+-- two numbers in order: the lesser is one of them and at most both, the greater is the other
+abbrev Sorted : ℕ → ℕ → ℕ → ℕ → Type 0
+Sorted a b low high = (low ≤ a) × (low ≤ b) × (((low ≡ a) × (high ≡ b)) ⊎ ((low ≡ b) × (high ≡ a)))
+
+sorted : (a b : ℕ) → Sorted a b (lesser a b) (greater a b)
 sorted a b = go (leb a b) refl
   where
-    go :
-        (p : Bool) → leb a b ≡ p →
-        (cond p a b ≤ a) × (cond p a b ≤ b) × (((cond p a b ≡ a) × (cond p b a ≡ b)) ⊎ ((cond p a b ≡ b) × (cond p b a ≡ a)))
+    go : (p : Bool) → leb a b ≡ p → Sorted a b (cond p a b) (cond p b a)
     go true h = (omega arith, omega (arith, leb-true a b h), inl (refl, refl))
     go false h = (omega (arith, leb-false a b h), omega arith, inr (refl, refl))
 
@@ -65,9 +66,7 @@ least-of f = go (ltb (lesser a c) (lesser b d)) refl (sorted a c) (sorted b d)
     at x h j (inr (inr (inr (inl e)))) = subst (λ (j : ℕ). x ≤ corner f j) (sym e) (h .3)
 
     go :
-        (r : Bool) → ltb (lesser a c) (lesser b d) ≡ r →
-        (lesser a c ≤ a) × (lesser a c ≤ c) × (((lesser a c ≡ a) × (greater a c ≡ c)) ⊎ ((lesser a c ≡ c) × (greater a c ≡ a))) →
-        (lesser b d ≤ b) × (lesser b d ≤ d) × (((lesser b d ≡ b) × (greater b d ≡ d)) ⊎ ((lesser b d ≡ d) × (greater b d ≡ b))) →
+        (r : Bool) → ltb (lesser a c) (lesser b d) ≡ r → Sorted a c (lesser a c) (greater a c) → Sorted b d (lesser b d) (greater b d) →
         Least f (across f)
     go true l (h, k, inl e) q =
         let n = ltb-true (lesser a c) (lesser b d) l in

@@ -178,15 +178,11 @@ checks-accept m h =
 pub accepted-passes : (m : Mesh) → Accepted m → (later : ℕ) → meshChecks m later ≡ later
 unfolding meshChecks tableChecks
 accepted-passes m a later =
-    rw (
-      a .entire,
-      a .counted,
-      a .near,
-      no-corner-out-of-range (topology m) (a .sound),
-      no-repeated-corner (topology m)
-          (a .sound),
-      no-duplicate-cell (topology m) (a .sound),
-      no-mismatched-face (topology m) (a .sound),
-      no-isolated-vertex (topology m)
-          (a .sound),
-    )
+    let t = topology m in
+    let s = a .sound in
+    let h₄ = no-corner-out-of-range t s in
+    let h₅ = no-repeated-corner t s in
+    let h₆ = no-duplicate-cell t s in
+    let h₇ = no-mismatched-face t s in
+    let h₈ = no-isolated-vertex t s in
+    rw (a .entire, a .counted, a .near, h₄, h₅, h₆, h₇, h₈)

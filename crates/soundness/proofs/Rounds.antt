@@ -2,7 +2,7 @@
 use mathlib.Core.Path.{_≡_, refl, sym, ap, _∙_, subst}
 use mathlib.Core.Bool.{false, not, _||_}
 use mathlib.Core.List.{List, [], _∷_}
-use Prim.Native.Nat.{ℕ, zero, suc, _*_, _%_, _<_, _≤_}
+use Prim.Native.Nat.{ℕ, zero, suc, _*_, _/_, _%_, _<_, _≤_}
 use native.Mathlib.Nat.{mul-mod-right}
 use native.Mathlib.Omega.{arith}
 use lib.ListN.{length, length-map}
@@ -31,19 +31,15 @@ use Rattle.soundness.proofs.SplitSizes.{split-sizes, after-suc, after-g
 
 -- ---- a mesh of given cells
 
-same-topology :
-    {a a′ : ℕ} {b b′ c c′ d d′ e e′ : List (List ℕ)} → a ≡ a′ → b ≡ b′ → c ≡ c′ → d ≡ d′ → e ≡ e′ →
-    _≡_ {A = Topology} (record { vertexCount = a; hexes = b; quads = c; segments = d; points = e }) (record { vertexCount = a′; hexes = b′; quads = c′; segments = d′; points = e′ })
-same-topology p q r s t = λ i. record { vertexCount = p i; hexes = q i; quads = r i; segments = s i; points = t i }
-
 pub topology-meshOf : (xs : List ℤ) (t : Topology) → Sized t → length xs ≡ 3 * t .vertexCount → topology (meshOf xs t) ≡ t
 unfolding topology meshOf
 topology-meshOf xs t z e =
-    same-topology (omega arith)
-    (cut-concat 8 (t .hexes) (omega arith) (z hex))
-    (cut-concat 4 (t .quads) (omega arith) (z quad))
-    (cut-concat 2 (t .segments) (omega arith) (z segment))
-    (cut-concat 1 (t .points) (omega arith) (z point))
+    let v : length xs / 3 ≡ t .vertexCount = omega arith in
+    let h = cut-concat 8 (t .hexes) (omega arith) (z hex) in
+    let q = cut-concat 4 (t .quads) (omega arith) (z quad) in
+    let s = cut-concat 2 (t .segments) (omega arith) (z segment) in
+    let p = cut-concat 1 (t .points) (omega arith) (z point) in
+    rw (v, h, q, s, p)
 
 -- ---- one round
 
@@ -84,17 +80,10 @@ refined-sizes (suc n) m s =
 
 -- ---- the five counts
 
-same-counts :
-    {a a′ b b′ c c′ d d′ e e′ : ℕ} → a ≡ a′ → b ≡ b′ → c ≡ c′ → d ≡ d′ → e ≡ e′ →
-    _≡_ {A = Counts} (record { vertices = a; hexes = b; quads = c; segments = d; points = e }) (record { vertices = a′; hexes = b′; quads = c′; segments = d′; points = e′ })
-same-counts p q r s t = λ i. record { vertices = p i; hexes = q i; quads = r i; segments = s i; points = t i }
-
 -- the counts of a mesh's tables are those of its topology
 pub counts-now : (m : Mesh) → countsOf m ≡ countsIn (sizes (topology m))
 unfolding countsOf countsIn sizes topology
-counts-now m =
-    same-counts refl (sym (length-cut 8 (m .hexes))) (sym (length-cut 4 (m .quads))) (sym (length-cut 2 (m .segments)))
-    (sym (length-cut 1 (m .points)))
+counts-now m = rw (length-cut 8 (m .hexes), length-cut 4 (m .quads), length-cut 2 (m .segments), length-cut 1 (m .points))
 
 -- the finished counts, known before any round
 pub refined-counts : (n : ℕ) (m : Mesh) → Sound (topology m) → countsOf (refined n m) ≡ finishedCounts n (topology m)
