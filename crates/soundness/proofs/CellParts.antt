@@ -3,14 +3,14 @@
 use mathlib.Core.Path.{_≡_, refl}
 use mathlib.Core.Logic.{_⊎_, inl, inr}
 use mathlib.Core.List.{List, [], _∷_, map}
-use Prim.Native.Nat.{ℕ, _*_, _^_}
+use Prim.Native.Nat.{ℕ, _*_, _^_, _<_}
 use lib.ListN.{length, getD}
 use Rattle.rules.specs.Lists.{any, concat, upFrom, has, same}
 use Rattle.rules.specs.Mesh.{Kind, hex, quad, segment, point, kinds, corners, whole, singles, quadEdges, byDimension, places, cellParts, firstHolding, smallest}
 use Rattle.rules.specs.Split.{cornersAt}
 use Rattle.lists.specs.Membership.{In, Once}
 use Rattle.lists.proofs.Once.{once-upFrom}
-use Rattle.lists.proofs.Decide.{computed, decEither, decBoth, decIf, decEach, decSome, keepIf, keepIf-in, in-keepIf, once-keepIf, decNumber, decKey, decIn, decOnce}
+use Rattle.lists.proofs.Decide.{computed, decEither, decBoth, decIf, decEach, decSome, keepIf, keepIf-in, in-keepIf, once-keepIf, decNumber, decBelow, decKey, decIn, decOnce}
 
 -- ---- over the four kinds
 
@@ -191,6 +191,13 @@ unfolding same cellParts byDimension singles whole upFrom concat has any smalles
 smallest-part =
     computed (decKinds (λ (κ : Kind). decEach (λ (i : ℕ). decEach (λ (j : ℕ). part? (smallest κ i j) (cellParts κ)) (whole κ))
     (whole κ))) tt
+
+-- and its number among the cell's parts is below their count
+pub smallest-below : (κ : Kind) (i : ℕ) → In i (whole κ) → (j : ℕ) → In j (whole κ) → firstHolding i j (cellParts κ) < length (cellParts κ)
+unfolding cellParts byDimension singles whole upFrom concat has any firstHolding
+smallest-below =
+    computed (decKinds (λ (κ : Kind). decEach
+    (λ (i : ℕ). decEach (λ (j : ℕ). decBelow (firstHolding i j (cellParts κ)) (length (cellParts κ))) (whole κ)) (whole κ))) tt
 
 -- each part is the smallest for two corners
 pub reached : (κ : Kind) (r : List ℕ) → In r (cellParts κ) → (i : ℕ) × In i (whole κ) × ((j : ℕ) × In j (whole κ) × (smallest κ i j ≡ r))

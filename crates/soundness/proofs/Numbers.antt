@@ -8,7 +8,7 @@ use native.Mathlib.Nat.{zero-add}
 use native.Mathlib.Omega.{arith}
 use lib.ListN.{length, getD, length-map}
 use Rattle.rules.specs.Lists.{any, concat, concatMap, upFrom, has, Key, keyOf, indexOf, distinct}
-use Rattle.rules.specs.Mesh.{Kind, hex, quad, segment, point, corners, whole, singles, byDimension, places, cellParts, firstHolding, smallest, Topology}
+use Rattle.rules.specs.Mesh.{Kind, hex, quad, segment, point, corners, whole, singles, byDimension, places, cellParts, firstHolding, smallest, smallestTable, placeOf, Topology}
 use Rattle.rules.specs.Split.{cornersAt, keyAt, met, distinctParts, edges, faces, parts, fineVertex, child}
 use Rattle.lists.specs.Membership.{In}
 use Rattle.lists.proofs.Membership.{in-map, map-same, length-upFrom, getD-run, getD-in, getD-map}
@@ -16,8 +16,9 @@ use Rattle.lists.proofs.Once.{once-map, once-upFrom}
 use Rattle.lists.proofs.Distinct.{index-at, index-left, index-right, distinct-once}
 use Rattle.soundness.specs.Sound.{corner, Sound}
 use Rattle.soundness.specs.Numbers.{start, numberOf}
-use Rattle.soundness.proofs.CellParts.{power}
-use Rattle.soundness.proofs.Cells.{CellOf, fine, childAt, parts-in, one-key, corners-whole, key-whole, part-size, upper, tops}
+use Rattle.soundness.proofs.CellParts.{power, smallest-below}
+use Rattle.soundness.proofs.Cells.{CellOf, fine, childAt, parts-in, one-key, whole-below, corners-whole, key-whole, part-size, upper, tops}
+use Rattle.soundness.proofs.FineParts.{corner-child}
 
 -- ---- a few parts as tables name them
 
@@ -46,6 +47,25 @@ module _ {A : Type 0} where
 pub length-singles : (n : ℕ) → length (singles n) ≡ n
 unfolding singles
 length-singles n = length-map (upFrom 0 n) (λ (v : ℕ). v ∷ []) ∙ length-upFrom 0 n
+
+-- ---- the children of a cell, from the fine vertices of its parts
+
+-- With any numbering: corner j of child i is the fine vertex of the part whose number stands in row i and column j of the table.
+pub child-stored :
+    (numbered : List Key) (κ : Kind) (c : List ℕ) (i j : ℕ) → In i (whole κ) → In j (whole κ) →
+    corner (child numbered κ c i) j ≡ getD (map (fineVertex numbered c) (cellParts κ)) (placeOf (smallestTable κ) i j) 0
+unfolding smallest smallestTable whole
+child-stored numbered κ c i j h k =
+    let n = firstHolding i j (cellParts κ) in
+    let row = map (λ (j : ℕ). firstHolding i j (cellParts κ)) (whole κ) in
+    let e : getD (smallestTable κ) i [] ≡ row =
+    getD-run (λ (i : ℕ). map (λ (j : ℕ). firstHolding i j (cellParts κ)) (whole κ)) [] 0 (corners κ) i (whole-below κ i h)
+    ∙ ap (λ (i : ℕ). map (λ (j : ℕ). firstHolding i j (cellParts κ)) (whole κ)) (zero-add i) in
+    let f : getD row j 0 ≡ n =
+    getD-run (λ (j : ℕ). firstHolding i j (cellParts κ)) 0 0 (corners κ) j (whole-below κ j k) ∙ ap (λ (j : ℕ). firstHolding i j (cellParts κ)) (zero-add j) in
+    corner-child numbered κ c i j k
+    ∙ sym (getD-map (fineVertex numbered c) (cellParts κ) n [] 0 (smallest-below κ i h j k))
+    ∙ ap (λ (p : ℕ). getD (map (fineVertex numbered c) (cellParts κ)) p 0) (sym (ap (λ (l : List ℕ). getD l j 0) e ∙ f))
 
 -- ---- old vertices
 
@@ -175,7 +195,8 @@ module _ (t : Topology) (s : Sound t) where
   -- The fine vertices of a cell, in the order of its parts: its corners, its edges, its faces, its body. This is what a kernel stores.
   pub cell-vertices :
       (x : CellOf t) →
-      map (fine t (x .cell)) (cellParts (x .kind)) ≡ x .cell ++ (map (numberOf t (x .cell) 1) (places (x .kind) 1) ++ (map (numberOf t (x .cell) 2) (places (x .kind) 2) ++ map (numberOf t (x .cell) 3) (places (x .kind) 3)))
+      map (fine t (x .cell)) (cellParts (x .kind))
+      ≡ x .cell ++ (map (numberOf t (x .cell) 1) (places (x .kind) 1) ++ (map (numberOf t (x .cell) 2) (places (x .kind) 2) ++ map (numberOf t (x .cell) 3) (places (x .kind) 3)))
   unfolding singles whole cornersAt
   cell-vertices x =
       let κ = x .kind in
