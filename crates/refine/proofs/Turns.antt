@@ -6,27 +6,27 @@ use Prim.Native.Nat.{ℕ, zero, suc, _+_, _*_, _-_, _/_, _%_, _^_, _≤_, _<_}
 use native.Mathlib.Nat.{div-add-mod, le-trans, mul-le-mul-left, le-of-eq}
 use native.Mathlib.Omega.{arith}
 use borrow.Author.Tests.{eqb-true, not-false}
-use lib.ListN.{length, take, drop}
+use lib.ListN.{length, take, drop, take-append-drop}
 use lib.Seq.{take-at, drop-append-add, drop-drop}
 use lib.Dec.{eqb}
 use Rattle.rules.specs.declared.Sizes.{Sizes}
 use Rattle.rules.specs.declared.Counts.{Counts}
-use Rattle.rules.specs.Lists.{overwritten}
+use Rattle.rules.specs.Lists.{any, overwritten}
 use Rattle.rules.specs.Mesh.{Mesh, topology}
 use Rattle.rules.specs.Averaging.{round, refined}
 use Rattle.rules.specs.Counts.{sizes, nextSizes, sizesAfter, countsIn, countsOf, finishedCounts, outOfRange}
-use Rattle.rules.specs.Refusals.{partialEntry, countOutOfRange, tooLarge}
+use Rattle.rules.specs.Refusals.{partialEntry, countOutOfRange, outside, coordinateOutOfRange, tooLarge}
 use Rattle.rules.specs.EntryPoints.{resultTables}
 use Rattle.lists.proofs.Tests.{or-neither}
 use Rattle.soundness.specs.Accepted.{Accepted}
 use Rattle.soundness.specs.Growth.{AtMost, InRange}
 use Rattle.soundness.proofs.SplitSizes.{after-suc, after-grows, never-fall}
 use Rattle.soundness.proofs.Rounds.{counts-now, in-range, refined-sizes, tooLarge-before}
-use Rattle.accuracy.proofs.Accepted.{accepted-again}
+use Rattle.accuracy.proofs.Accepted.{refined-near, accepted-again}
 use Rattle.counting.specs.Bounded.{Bounded}
 use Rattle.refine.specs.Front.{front, Room}
 use Rattle.refine.specs.Ready.{Ready, ReadyFor}
-use Rattle.refine.proofs.Five.{same-mesh, length-overwritten}
+use Rattle.refine.proofs.Five.{same-mesh, length-part, length-overwritten}
 
 -- ---- the lengths of a mesh's tables
 
@@ -75,6 +75,10 @@ module _ {A : Type 0} where
       ap (λ (l : List A). b ++ l)
       (ap (λ (k : ℕ). drop k (a ++ drop (length a) old)) e ∙ drop-append-add a (drop (length a) old) n ∙ drop-drop n (length a) old ∙ ap (λ (k : ℕ). drop k old) (sym e))
 
+  own : (n : ℕ) (xs : List A) → n ≤ length xs → overwritten xs (take n xs) ≡ xs
+  unfolding overwritten
+  own n xs h = ap (λ (k : ℕ). take n xs ++ drop k xs) (sym (length-part n xs h)) ∙ take-append-drop n xs
+
 pub front-begins : (s : Sizes) (old m : Mesh) → Filled s m → front s (resultTables 0 old m) ≡ m
 unfolding front resultTables
 front-begins s old m f =
@@ -117,6 +121,35 @@ room-stored r s old m f a h = record {
   quads = omega (arith, h .quads, length-overwritten (old .quads) (m .quads) (omega (arith, f .quads, a .quads)));
   segments = omega (arith, h .segments, length-overwritten (old .segments) (m .segments) (omega (arith, f .segments, a .segments)));
   points = omega (arith, h .points, length-overwritten (old .points) (m .points) (omega (arith, f .points, a .points)));
+}
+
+-- the tables of one have the lengths of those of the other
+pub record SameLengths (a b : Mesh) : Type 0 where
+  pub vertices : length (b .vertices) ≡ length (a .vertices)
+  pub hexes : length (b .hexes) ≡ length (a .hexes)
+  pub quads : length (b .quads) ≡ length (a .quads)
+  pub segments : length (b .segments) ≡ length (a .segments)
+  pub points : length (b .points) ≡ length (a .points)
+
+pub same-lengths : (a : Mesh) → SameLengths a a
+same-lengths a = record { vertices = refl; hexes = refl; quads = refl; segments = refl; points = refl }
+
+pub same-then : {a b c : Mesh} → SameLengths a b → SameLengths b c → SameLengths a c
+same-then p q = record {
+  vertices = q .vertices ∙ p .vertices;
+  hexes = q .hexes ∙ p .hexes;
+  quads = q .quads ∙ p .quads;
+  segments = q .segments ∙ p .segments;
+  points = q .points ∙ p .points;
+}
+
+pub room-same : (s : Sizes) {a b : Mesh} → SameLengths a b → Room s a → Room s b
+room-same s l h = record {
+  vertices = omega (arith, l .vertices, h .vertices);
+  hexes = omega (arith, l .hexes, h .hexes);
+  quads = omega (arith, l .quads, h .quads);
+  segments = omega (arith, l .segments, h .segments);
+  points = omega (arith, l .points, h .points);
 }
 
 -- ---- the sizes of a mesh that a round leaves in the ranges fit their sums
@@ -203,12 +236,6 @@ module _ {n : ℕ} {m : Mesh} {s : Sizes} {out work : Mesh} {words longs : List 
       sized : front now o ≡ refined k m → now ≡ sizes (topology (front now o))
       sized f = ap (λ (x : Mesh). sizes (topology x)) (sym f) ∙ refl
 
-  -- the working tables keep room for the finished mesh
-  pub work-room : k ≤ n → (o w w′ : Mesh) → o ≡ resultTables 0 out (refined k m) → Room (sizesAfter n s) w → w′ ≡ resultTables 0 w (front now o) → Room (sizesAfter n s) w′
-  work-room h o w w′ e r f =
-      subst (λ (x : Mesh). Room (sizesAfter n s) x) (sym (f ∙ ap (resultTables 0 w) (front-now h o e)))
-      (room-stored now (sizesAfter n s) w (refined k m) (now-filled h) (room-now h w r) r)
-
 one-more : (r : Sizes) → AtMost r (nextSizes r)
 unfolding sizesAfter
 one-more r = after-grows 1 r
@@ -227,3 +254,78 @@ module _ {n : ℕ} {m : Mesh} {s : Sizes} {out work : Mesh} {words longs : List 
       ∙ ap (λ (x : Mesh). resultTables 0 o (round x)) (front-now ready k l o e)
       ∙ ap (λ (x : Mesh). resultTables 0 x (round (refined k m))) e
       ∙ result-twice (now ready k) (now ready (suc k)) (refined k m) (refined (suc k) m) (now-filled ready k l) (now-filled ready (suc k) h) less out
+
+-- ---- the loop's invariant
+
+-- after k of n rounds of the mesh m, which stood at the front of the tables `out₀`
+pub record Turning (n k : ℕ) (m : Mesh) (s : Sizes) (out₀ out work₀ work : Mesh) (words₀ words longs₀ longs : List ℕ) : Type 0 where
+  pub upTo : k ≤ n
+  pub sized : s ≡ sizes (topology (refined k m))
+  pub holds : out ≡ resultTables 0 out₀ (refined k m)
+  pub sameOut : SameLengths out₀ out
+  pub sameWork : SameLengths work₀ work
+  pub sameWords : length words ≡ length words₀
+  pub sameLongs : length longs ≡ length longs₀
+
+own-front : (s : Sizes) (tables : Mesh) → Room s tables → resultTables 0 tables (front s tables) ≡ tables
+unfolding front resultTables
+own-front s tables r =
+    same-mesh (own (3 * s .vertices) (tables .vertices) (r .vertices))
+    (own (8 * s .hexes) (tables .hexes) (r .hexes))
+    (own (4 * s .quads) (tables .quads) (r .quads))
+    (own (2 * s .segments) (tables .segments) (r .segments))
+    (own (s .points) (tables .points) (r .points))
+
+module _ {n : ℕ} {s : Sizes} {out work : Mesh} {words longs : List ℕ} (ready : ReadyFor n (front s out) s out work words longs) where
+  pub turning-starts : Turning n 0 (front s out) s out out work work words words longs longs
+  unfolding refined
+  turning-starts = record {
+    upTo = omega arith;
+    sized = ready .sized;
+    holds = sym (own-front s out (room-less s (sizesAfter n s) out (after-grows n s) (ready .room)));
+    sameOut = same-lengths out;
+    sameWork = same-lengths work;
+    sameWords = refl;
+    sameLongs = refl;
+  }
+
+module _ {n k : ℕ} {m : Mesh} {s₀ s : Sizes} {out₀ out work₀ work : Mesh} {words₀ words longs₀ longs : List ℕ} (ready : ReadyFor n m s₀ out₀ work₀ words₀ longs₀) (t : Turning n k m s out₀ out work₀ work words₀ words longs₀ longs) (h : k < n) where
+  pub turning-ready : Room s work × (Room s out × Ready (front s out) s out words longs)
+  turning-ready =
+      subst (λ (r : Sizes). Room r work × (Room r out × Ready (front r out) r out words longs)) (sym (t .sized))
+      (room-now ready k (t .upTo) work (room-same (sizesAfter n s₀) (t .sameWork) (ready .workingRoom)), turn-ready ready k h out (t .holds) words longs (t .sameWords) (t .sameLongs))
+
+  pub turning-bounded : Bounded (2 ^ 59) s
+  turning-bounded = small-bounded s (ap (λ (r : Sizes). outOfRange (countsIn (nextSizes r))) (t .sized) ∙ next-small ready k h)
+
+  -- a round more, and the sizes that it leads to
+  module _ {s′ : Sizes} {out′ : Mesh} (e : s′ ≡ nextSizes s) (f : out′ ≡ resultTables 0 out (round (front s out))) where
+    next-sized : s′ ≡ sizes (topology (refined (suc k) m))
+    next-sized = e ∙ ap nextSizes (t .sized) ∙ sym (now-next ready k h)
+
+    next-holds : out′ ≡ resultTables 0 out₀ (refined (suc k) m)
+    next-holds = turned ready k h out out′ (t .holds) (f ∙ ap (λ (r : Sizes). resultTables 0 out (round (front r out))) (t .sized))
+
+    -- no coordinate strays
+    pub turning-near : any outside (take (3 * s′ .vertices) (out′ .vertices)) ≡ false
+    unfolding front coordinateOutOfRange
+    turning-near =
+        ap (λ (r : Sizes). any outside (take (3 * r .vertices) (out′ .vertices))) next-sized
+        ∙ ap (λ (x : Mesh). any outside (x .vertices)) (front-now ready (suc k) h out′ next-holds)
+        ∙ refined-near m (ready .accepted) (suc k)
+
+    pub turning-covers : 3 * s′ .vertices ≤ length (out′ .vertices)
+    turning-covers =
+        let r = subst (λ (r : Sizes). Room r out′) (sym next-sized) (room-now ready (suc k) h out′ (out-room ready (suc k) h out′ next-holds)) in
+        r .vertices
+
+    pub turning-next : {work′ : Mesh} (words′ longs′ : List ℕ) → SameLengths out out′ → SameLengths work work′ → length words′ ≡ length words → length longs′ ≡ length longs → Turning n (suc k) m s′ out₀ out′ work₀ work′ words₀ words′ longs₀ longs′
+    turning-next words′ longs′ o w p q = record {
+      upTo = h;
+      sized = next-sized;
+      holds = next-holds;
+      sameOut = same-then (t .sameOut) o;
+      sameWork = same-then (t .sameWork) w;
+      sameWords = p ∙ t .sameWords;
+      sameLongs = q ∙ t .sameLongs;
+    }

@@ -34,8 +34,6 @@ fn round(
         let m = mesh (now (xs .entry)) (now (hs .entry)) (now (qs .entry)) (now (ss .entry)) (now (ps .entry)) in
         let old = mesh (now (ox .entry)) (now (oh .entry)) (now (oq .entry)) (now (os .entry)) (now (op .entry)) in
         ⌜ mesh (now (ox .exit)) (now (oh .exit)) (now (oq .exit)) (now (os .exit)) (now (op .exit)) ≡ resultTables 0 old (round m) ⌝ }
-    ensures { λ _. ⌜ length (now (words .exit)) ≡ length (now (words .entry)) ⌝ }
-    ensures { λ _. ⌜ length (now (longs .exit)) ≡ length (now (longs .entry)) ⌝ }
 {}
 
 // One round, from the mesh of the given sizes at the front of tables.
@@ -61,8 +59,6 @@ fn round_front(
         let m = front sizes (mesh (now (xs .entry)) (now (hs .entry)) (now (qs .entry)) (now (ss .entry)) (now (ps .entry))) in
         let old = mesh (now (ox .entry)) (now (oh .entry)) (now (oq .entry)) (now (os .entry)) (now (op .entry)) in
         ⌜ mesh (now (ox .exit)) (now (oh .exit)) (now (oq .exit)) (now (os .exit)) (now (op .exit)) ≡ resultTables 0 old (round m) ⌝ }
-    ensures { λ _. ⌜ length (now (words .exit)) ≡ length (now (words .entry)) ⌝ }
-    ensures { λ _. ⌜ length (now (longs .exit)) ≡ length (now (longs .entry)) ⌝ }
 {
     let v = 3 * sizes.vertices as usize;
     let h = 8 * sizes.hexes as usize;
@@ -108,12 +104,6 @@ pub fn turn(
     ensures { λ _.
         let old = mesh (now (ox .entry)) (now (oh .entry)) (now (oq .entry)) (now (os .entry)) (now (op .entry)) in
         ⌜ mesh (now (ox .exit)) (now (oh .exit)) (now (oq .exit)) (now (os .exit)) (now (op .exit)) ≡ resultTables 0 old (round (front sizes old)) ⌝ }
-    ensures { λ _.
-        let old = mesh (now (wx .entry)) (now (wh .entry)) (now (wq .entry)) (now (ws .entry)) (now (wp .entry)) in
-        ⌜ mesh (now (wx .exit)) (now (wh .exit)) (now (wq .exit)) (now (ws .exit)) (now (wp .exit))
-        ≡ resultTables 0 old (front sizes (mesh (now (ox .entry)) (now (oh .entry)) (now (oq .entry)) (now (os .entry)) (now (op .entry)))) ⌝ }
-    ensures { λ _. ⌜ length (now (words .exit)) ≡ length (now (words .entry)) ⌝ }
-    ensures { λ _. ⌜ length (now (longs .exit)) ≡ length (now (longs .entry)) ⌝ }
 {
     copy_front(sizes, ox, oh, oq, os, op, wx, wh, wq, ws, wp);
     round_front(sizes, wx, wh, wq, ws, wp, ox, oh, oq, os, op, words, longs);

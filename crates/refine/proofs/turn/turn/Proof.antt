@@ -33,7 +33,7 @@ returns c =
     let work = mesh (now (a .wx)) (now (a .wh)) (now (a .wq)) (now (a .ws)) (now (a .wp)) in
     let e = p .copy-front .ensures in
     let f = ap (front (a .sizes)) e ∙ front-copied (a .sizes) work out (s .pre .1 .0) in
-    (r .round-front .ensures .0 ∙ ap (λ (m : Mesh). resultTables 0 out (round m)) f, (e, r .round-front .ensures .1))
+    r .round-front .ensures ∙ ap (λ (m : Mesh). resultTables 0 out (round m)) f
 
 pub turn-spec : {M : Type 1} → statement M
 turn-spec =

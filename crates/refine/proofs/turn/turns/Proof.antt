@@ -1,150 +1,97 @@
+-- `refine::turn::turns` meets its contract: after k rounds the output tables begin with the mesh after k rounds, and no round strays.
+-- Assumes nothing.
+use mathlib.Core.Path.{_≡_, refl, sym, ap, subst, _∙_}
+use mathlib.Core.Bool.{Bool, true, false}
+use Prim.Native.Nat.{ℕ, suc, _+_, _-_, _*_, _≤_, _<_}
+use native.Mathlib.Numerals.{add-one}
+use native.Mathlib.Omega.{arith}
+use borrow.Author.Needs.{needs}
+use denote.Ref.{now}
+use lib.ListN.{length}
+use Rattle.rules.specs.Mesh.{Mesh, mesh}
+use Rattle.rules.specs.Averaging.{refined}
+use Rattle.rules.specs.Refusals.{check, strays}
+use Rattle.rules.specs.EntryPoints.{resultTables}
+use Rattle.lists.proofs.Tests.{false≢true}
+use Rattle.accuracy.proofs.Accepted.{never-strays}
+use Rattle.refine.specs.Front.{front}
+use Rattle.refine.specs.Ready.{ReadyFor}
+use Rattle.refine.proofs.Turns.{Turning, turning-starts, turning-ready, turning-bounded, turning-next, turning-near, turning-covers}
 use Rattle.refine.proofs.turn.turns.Statement.{statement}
 use Rattle.refine.proofs.turn.turns.Tie as tie
-use Rattle.refine.proofs.turn.turns.Reads as reads
-use Rattle.refine.proofs.turn.turns.Lts as lts
-use Rattle.counting.proofs.next_sizes.Reads as next-sizes-reads
-use Rattle.refine.proofs.turn.strayed.Reads as strayed-reads
-use Rattle.refine.proofs.turn.turn.Reads as turn-reads
 
 abbrev Inv-loop : tie.InvT-loop
 Inv-loop rounds ox₀ oh₀ oq₀ os₀ op₀ wx₀ wh₀ wq₀ ws₀ wp₀ words₀ longs₀ sizes₀ k₀ ox oh oq os op wx wh wq ws wp words longs sizes k =
-    ?
+    Turning rounds k (front sizes₀ (mesh ox₀ oh₀ oq₀ os₀ op₀)) sizes (mesh ox₀ oh₀ oq₀ os₀ op₀) (mesh ox oh oq os op) (mesh wx₀ wh₀ wq₀ ws₀ wp₀) (mesh wx wh wq ws wp) words₀ words longs₀ longs
 
 abbrev μ-loop : tie.MeasureT-loop
 μ-loop rounds ox₀ oh₀ oq₀ os₀ op₀ wx₀ wh₀ wq₀ ws₀ wp₀ words₀ longs₀ sizes₀ k₀ ox oh oq os op wx wh wq ws wp words longs sizes k =
-    ?
+    rounds - k
 
--- src/turn.rt:159:5
+-- from the test of the coordinates back to the call of a round, from there to the loop's head, and to the start
+abbrev called : tie.After-strayed-arg Inv-loop μ-loop → tie.After-turn Inv-loop μ-loop
+called c = c .before .before .before .before .before .before .before .before .before .before .before .before .before .before .before .before .before .before .before .before .before .before .before .before
+
+abbrev head : tie.After-turn Inv-loop μ-loop → tie.In-loop Inv-loop μ-loop
+head t = t .before .before .before .before .before .before .before .before .before .before .before .before .before
+
+abbrev start : tie.In-loop Inv-loop μ-loop → tie.Start Inv-loop μ-loop
+start l = l .before .before .before .before .before .before .before .before .before .before .before .before
+
 loop-holds : tie.Need-loop-holds Inv-loop μ-loop
-loop-holds c = ?
+loop-holds c = let s = c .before .before .before .before .before .before .before .before .before .before in turning-starts (s .pre)
 
--- src/turn.rt:160:9
 turn-requires : tie.Need-turn-requires Inv-loop μ-loop
-turn-requires c κs = ?
+turn-requires c κs = let l = c .before .before .before .before .before .before .before .before .before .before .before .before in turning-ready (start l .pre) (l .before .loop .inv) (l .loop-test .taken)
 
--- src/turn.rt:161:9
 next-sizes-requires : tie.Need-next-sizes-requires Inv-loop μ-loop
-next-sizes-requires c κs = ?
+next-sizes-requires c κs = let l = c .before .before .before .before .before .before .before .before .before .before .before .before .before .before .before .before .before .before .before .before .before .before .before .before .before .before .before .before .before .before .before .before .before .before .before in turning-bounded (start l .pre) (l .before .loop .inv) (l .loop-test .taken)
 
--- src/turn.rt:162:12
 strayed-requires : tie.Need-strayed-requires Inv-loop μ-loop
-strayed-requires c κs = ?
+strayed-requires c κs =
+    let t = called c in
+    let l = head t in
+    turning-covers (start l .pre) (l .before .loop .inv) (l .loop-test .taken) (c .before .next-sizes .ensures) (t .turn .ensures)
 
--- src/turn.rt:163:13
-same-length : tie.Need-same-length Inv-loop μ-loop
-same-length c = ?
+-- no round strays
+dead : tie.Then1 Inv-loop μ-loop → ⊥
+dead c =
+    let t = called (c .before .before) in
+    let l = head t in
+    let near = turning-near (start l .pre) (l .before .loop .inv) (l .loop-test .taken) (c .before .before .before .next-sizes .ensures) (t .turn .ensures) in
+    false≢true (sym near ∙ sym (c .before .strayed .ensures) ∙ c .if1 .taken)
 
--- src/turn.rt:163:13
-same-length-2 : tie.Need-same-length-2 Inv-loop μ-loop
-same-length-2 c = ?
-
--- src/turn.rt:163:13
-same-length-3 : tie.Need-same-length-3 Inv-loop μ-loop
-same-length-3 c = ?
-
--- src/turn.rt:163:13
-same-length-4 : tie.Need-same-length-4 Inv-loop μ-loop
-same-length-4 c = ?
-
--- src/turn.rt:163:13
-same-length-5 : tie.Need-same-length-5 Inv-loop μ-loop
-same-length-5 c = ?
-
--- src/turn.rt:163:13
-same-length-6 : tie.Need-same-length-6 Inv-loop μ-loop
-same-length-6 c = ?
-
--- src/turn.rt:163:13
-same-length-7 : tie.Need-same-length-7 Inv-loop μ-loop
-same-length-7 c = ?
-
--- src/turn.rt:163:13
-same-length-8 : tie.Need-same-length-8 Inv-loop μ-loop
-same-length-8 c = ?
-
--- src/turn.rt:163:13
-same-length-9 : tie.Need-same-length-9 Inv-loop μ-loop
-same-length-9 c = ?
-
--- src/turn.rt:163:13
-same-length-10 : tie.Need-same-length-10 Inv-loop μ-loop
-same-length-10 c = ?
-
--- src/turn.rt:163:13
-same-length-11 : tie.Need-same-length-11 Inv-loop μ-loop
-same-length-11 c = ?
-
--- src/turn.rt:163:13
-same-length-12 : tie.Need-same-length-12 Inv-loop μ-loop
-same-length-12 c = ?
-
--- src/turn.rt:163:13
-returns : tie.Need-returns Inv-loop μ-loop
-returns c = ?
-
--- src/turn.rt:165:9
 add-k : tie.Need-add-k Inv-loop μ-loop
-add-k c = ?
+add-k c =
+    let l = head (called (c .before .before)) in
+    omega (arith, l .loop-test .taken, start l .fits .rounds)
 
--- src/turn.rt:159:5
 loop-less : tie.Need-loop-less Inv-loop μ-loop
-loop-less c = ?
+loop-less c = omega (arith, head (called (c .before .before)) .loop-test .taken)
 
--- src/turn.rt:159:5
 loop-again : tie.Need-loop-again Inv-loop μ-loop
-loop-again c = ?
+loop-again c =
+    let t = called (c .before .before) in
+    let l = head t in
+    let kept = t .turn .kept .1 in
+    rw (add-one (l .before .loop .k))
+    (turning-next (start l .pre) (l .before .loop .inv) (l .loop-test .taken) (c .before .before .before .next-sizes .ensures) (t .turn .ensures) (t .turn .last .1 .1 .1 .1 .1 .1 .1 .1 .1 .1 .1 .0) (t .turn .last .1 .1 .1 .1 .1 .1 .1 .1 .1 .1 .1 .1 .0)
+    (record { vertices = (kept .0); hexes = (kept .1 .0); quads = (kept .1 .1 .0); segments = (kept .1 .1 .1 .0); points = (kept .1 .1 .1 .1 .0) })
+    (record { vertices = (kept .1 .1 .1 .1 .1 .0); hexes = (kept .1 .1 .1 .1 .1 .1 .0); quads = (kept .1 .1 .1 .1 .1 .1 .1 .0); segments = (kept .1 .1 .1 .1 .1 .1 .1 .1 .0); points = (kept .1 .1 .1 .1 .1 .1 .1 .1 .1 .0) })
+    (kept .1 .1 .1 .1 .1 .1 .1 .1 .1 .1 .0) (kept .1 .1 .1 .1 .1 .1 .1 .1 .1 .1 .1 .0))
 
--- src/turn.rt:132:1
-same-length-13 : tie.Need-same-length-13 Inv-loop μ-loop
-same-length-13 c = ?
-
--- src/turn.rt:132:1
-same-length-14 : tie.Need-same-length-14 Inv-loop μ-loop
-same-length-14 c = ?
-
--- src/turn.rt:132:1
-same-length-15 : tie.Need-same-length-15 Inv-loop μ-loop
-same-length-15 c = ?
-
--- src/turn.rt:132:1
-same-length-16 : tie.Need-same-length-16 Inv-loop μ-loop
-same-length-16 c = ?
-
--- src/turn.rt:132:1
-same-length-17 : tie.Need-same-length-17 Inv-loop μ-loop
-same-length-17 c = ?
-
--- src/turn.rt:132:1
-same-length-18 : tie.Need-same-length-18 Inv-loop μ-loop
-same-length-18 c = ?
-
--- src/turn.rt:132:1
-same-length-19 : tie.Need-same-length-19 Inv-loop μ-loop
-same-length-19 c = ?
-
--- src/turn.rt:132:1
-same-length-20 : tie.Need-same-length-20 Inv-loop μ-loop
-same-length-20 c = ?
-
--- src/turn.rt:132:1
-same-length-21 : tie.Need-same-length-21 Inv-loop μ-loop
-same-length-21 c = ?
-
--- src/turn.rt:132:1
-same-length-22 : tie.Need-same-length-22 Inv-loop μ-loop
-same-length-22 c = ?
-
--- src/turn.rt:132:1
-same-length-23 : tie.Need-same-length-23 Inv-loop μ-loop
-same-length-23 c = ?
-
--- src/turn.rt:132:1
-same-length-24 : tie.Need-same-length-24 Inv-loop μ-loop
-same-length-24 c = ?
-
--- src/turn.rt:132:1
 returns-2 : tie.Need-returns-2 Inv-loop μ-loop
-returns-2 c = ?
+returns-2 c =
+    let l = c .before in
+    let s = l .before .before .before .before .before .before .before .before .before .before .before in
+    let a = s .args in
+    let out = mesh (now (a .ox)) (now (a .oh)) (now (a .oq)) (now (a .os)) (now (a .op)) in
+    let m = front (a .start) out in
+    let i = l .loop .inv in
+    let e : l .loop .k ≡ a .rounds = omega (arith, c .loop-test .left, i .upTo) in (
+      sym (ap (λ (b : Bool). check b 12 0) (never-strays m (s .pre .accepted) (a .rounds))),
+      i .holds ∙ ap (λ (k : ℕ). resultTables 0 out (refined k m)) e,
+    )
 
 pub turns-spec : {M : Type 1} → statement M
 turns-spec =
@@ -156,32 +103,32 @@ turns-spec =
     turn-requires
     next-sizes-requires
     strayed-requires
-    same-length
-    same-length-2
-    same-length-3
-    same-length-4
-    same-length-5
-    same-length-6
-    same-length-7
-    same-length-8
-    same-length-9
-    same-length-10
-    same-length-11
-    same-length-12
-    returns
+    (λ c. absurd (dead c))
+    (λ c. absurd (dead c))
+    (λ c. absurd (dead c))
+    (λ c. absurd (dead c))
+    (λ c. absurd (dead c))
+    (λ c. absurd (dead c))
+    (λ c. absurd (dead c))
+    (λ c. absurd (dead c))
+    (λ c. absurd (dead c))
+    (λ c. absurd (dead c))
+    (λ c. absurd (dead c))
+    (λ c. absurd (dead c))
+    (λ c. absurd (dead c))
     add-k
     loop-less
     loop-again
-    same-length-13
-    same-length-14
-    same-length-15
-    same-length-16
-    same-length-17
-    same-length-18
-    same-length-19
-    same-length-20
-    same-length-21
-    same-length-22
-    same-length-23
-    same-length-24
+    (λ c. c .before .loop .inv .sameOut .vertices)
+    (λ c. c .before .loop .inv .sameOut .hexes)
+    (λ c. c .before .loop .inv .sameOut .quads)
+    (λ c. c .before .loop .inv .sameOut .segments)
+    (λ c. c .before .loop .inv .sameOut .points)
+    (λ c. c .before .loop .inv .sameWork .vertices)
+    (λ c. c .before .loop .inv .sameWork .hexes)
+    (λ c. c .before .loop .inv .sameWork .quads)
+    (λ c. c .before .loop .inv .sameWork .segments)
+    (λ c. c .before .loop .inv .sameWork .points)
+    (λ c. c .before .loop .inv .sameWords)
+    (λ c. c .before .loop .inv .sameLongs)
     returns-2)
