@@ -2,3 +2,5 @@
 pub mod Five
 -- Turns: the rounds in place.
 pub mod Turns
+-- Decisions: the refusals one after the other; the sizes of a mesh that passed the checks.
+pub mod Decisions

@@ -2,3 +2,5 @@
 pub mod Front
 -- Ready: what a round needs.
 pub mod Ready
+-- Planned: what the checks before a round find.
+pub mod Planned
