@@ -4,3 +4,5 @@ pub mod Five
 pub mod Turns
 -- Decisions: the refusals one after the other; the sizes of a mesh that passed the checks.
 pub mod Decisions
+-- Lending: from the checks to the rounds and back.
+pub mod Lending

@@ -62,7 +62,7 @@ filled m h =
 -- ---- tables that begin with a mesh
 
 module _ {A : Type 0} where
-  begins : (n : ℕ) (old new : List A) → length new ≡ n → take n (overwritten old new) ≡ new
+  pub begins : (n : ℕ) (old new : List A) → length new ≡ n → take n (overwritten old new) ≡ new
   unfolding overwritten
   begins n old new e = take-at new (drop (length new) old) n e
 

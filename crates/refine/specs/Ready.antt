@@ -30,3 +30,11 @@ pub record ReadyFor (rounds : ℕ) (m : Mesh) (s : Sizes) (out work : Mesh) (wor
   pub workingRoom : Room (sizesAfter rounds s) work
   pub enoughWords : 8 * sizesAfter rounds s .vertices ≤ length words
   pub enoughLongs : 3 * sizesAfter rounds s .vertices ≤ length longs
+
+-- Counts that fit the answer's 32-bit numbers.
+pub record Answerable (s : Sizes) : Type 0 where
+  pub vertices : s .vertices ≤ 1_000_000
+  pub hexes : s .hexes ≤ 250_000
+  pub quads : s .quads ≤ 250_000
+  pub segments : s .segments ≤ 250_000
+  pub points : s .points ≤ 250_000

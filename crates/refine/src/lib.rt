@@ -11,49 +11,56 @@ use rules::Counts;
 use rules::CountsAnswer;
 use rules::Sizes;
 ghost use mathlib.Core.Path.{_≡_};
-ghost use Prim.Native.Nat.{_*_, _^_};
+ghost use Prim.Native.Nat.{_*_};
 ghost use lib.ListN.{take};
+ghost use Rattle.rules.specs.declared.Counts.{Counts};
 ghost use Rattle.rules.specs.Mesh.{mesh};
 ghost use Rattle.rules.specs.Averaging.{refined};
 ghost use Rattle.rules.specs.Counts.{countsIn};
 ghost use Rattle.rules.specs.Refusals.{check, strays};
 ghost use Rattle.rules.specs.EntryPoints.{countsAnswer, resultTables, refiningAnswer, refiningOutput, clearedTables, cleared};
 ghost use Rattle.accuracy.specs.Property3.{Property3};
-ghost use Rattle.counting.specs.Bounded.{Bounded};
-ghost use Rattle.refine.specs.Ready.{ReadyFor};
+ghost use Rattle.refine.specs.Ready.{ReadyFor, Answerable};
 
 mod plan;
 mod stub;
 mod tables;
 mod turn;
 
-// The answer: the counts, and zeros in their place where the mesh is refused.
+// The answer of a refusal: its number and zeros.
+fn refused(refusal: u32) -> CountsAnswer
+    requires { ⌜ (refusal ≡ 0 → ⊥) ⌝ }
+    ensures { λ r. ⌜ ((c : Counts) → r ≡ countsAnswer refusal c) ⌝ }
+{
+    let none = Counts {
+        vertices: 0,
+        hexes: 0,
+        quads: 0,
+        segments: 0,
+        points: 0,
+    };
+    CountsAnswer {
+        refusal,
+        counts: none,
+    }
+}
+
+// The answer: the counts, and zeros in their place where there is a refusal.
 fn answer(refusal: u32, finished: Sizes) -> CountsAnswer
-    requires { ⌜ Bounded (2 ^ 31) finished ⌝ }
+    requires { ⌜ Answerable finished ⌝ }
     ensures { λ r. ⌜ r ≡ countsAnswer refusal (countsIn finished) ⌝ }
 {
     if refusal != 0 {
-        return CountsAnswer {
-            refusal,
-            counts: Counts {
-                vertices: 0,
-                hexes: 0,
-                quads: 0,
-                segments: 0,
-                points: 0,
-            },
-        };
+        return refused(refusal);
     }
-    CountsAnswer {
-        refusal: 0,
-        counts: Counts {
-            vertices: finished.vertices as u32,
-            hexes: finished.hexes as u32,
-            quads: finished.quads as u32,
-            segments: finished.segments as u32,
-            points: finished.points as u32,
-        },
-    }
+    let counts = Counts {
+        vertices: finished.vertices as u32,
+        hexes: finished.hexes as u32,
+        quads: finished.quads as u32,
+        segments: finished.segments as u32,
+        points: finished.points as u32,
+    };
+    CountsAnswer { refusal: 0, counts }
 }
 
 // A mesh that passed the checks: copied to the output tables, and refined there.
@@ -153,7 +160,7 @@ fn run(
     let start = plan.start;
     let finished = plan.finished;
     if refusal != 0 {
-        return answer(refusal, start);
+        return refused(refusal);
     }
     let strayed = accepted(
         xs,

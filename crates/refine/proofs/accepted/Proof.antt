@@ -1,70 +1,31 @@
+-- `refine::accepted` meets its contract: the copy is refined in place. Assumes nothing.
+use mathlib.Core.Path.{_≡_, _∙_}
 use borrow.Author.Needs.{needs}
+use denote.Ref.{now}
+use Rattle.rules.specs.Mesh.{mesh}
+use Rattle.refine.proofs.Lending.{copy-fits, ready-copied, copy-refined}
 use Rattle.refine.proofs.accepted.Statement.{statement}
 use Rattle.refine.proofs.accepted.Tie as tie
-use Rattle.refine.proofs.accepted.Reads as reads
-use Rattle.refine.proofs.accepted.Lts as lts
-use Rattle.refine.proofs.tables.copy.Reads as copy-reads
-use Rattle.refine.proofs.turn.turns.Reads as turns-reads
 
--- src/lib.rt:92:5
+abbrev copied : tie.After-turns → tie.After-copy
+copied t = t .before .before .before .before .before .before .before .before .before .before .before .before .before .before .before .before .before .before .before .before .before .before
+
+abbrev start : tie.After-copy → tie.Start
+start p = p .before .before .before .before .before .before .before .before .before .before .before .before .before .before .before .before .before .before .before .before
+
 copy-requires : tie.Need-copy-requires
-copy-requires c κs = ?
+copy-requires c κs = copy-fits (c .before .before .before .before .before .before .before .before .before .before .before .before .before .before .before .before .before .before .before .pre)
 
--- src/lib.rt:93:5
 turns-requires : tie.Need-turns-requires
-turns-requires c κs = ?
+turns-requires c κs =
+    let p = c .before .before .before .before .before .before .before .before .before .before .before .before .before .before .before .before .before .before .before .before .before in
+    ready-copied (start p .pre) _ (p .copy .ensures)
 
--- src/lib.rt:60:1
-same-length : tie.Need-same-length
-same-length c = ?
-
--- src/lib.rt:60:1
-same-length-2 : tie.Need-same-length-2
-same-length-2 c = ?
-
--- src/lib.rt:60:1
-same-length-3 : tie.Need-same-length-3
-same-length-3 c = ?
-
--- src/lib.rt:60:1
-same-length-4 : tie.Need-same-length-4
-same-length-4 c = ?
-
--- src/lib.rt:60:1
-same-length-5 : tie.Need-same-length-5
-same-length-5 c = ?
-
--- src/lib.rt:60:1
-same-length-6 : tie.Need-same-length-6
-same-length-6 c = search needs
-
--- src/lib.rt:60:1
-same-length-7 : tie.Need-same-length-7
-same-length-7 c = search needs
-
--- src/lib.rt:60:1
-same-length-8 : tie.Need-same-length-8
-same-length-8 c = search needs
-
--- src/lib.rt:60:1
-same-length-9 : tie.Need-same-length-9
-same-length-9 c = search needs
-
--- src/lib.rt:60:1
-same-length-10 : tie.Need-same-length-10
-same-length-10 c = search needs
-
--- src/lib.rt:60:1
-same-length-11 : tie.Need-same-length-11
-same-length-11 c = search needs
-
--- src/lib.rt:60:1
-same-length-12 : tie.Need-same-length-12
-same-length-12 c = search needs
-
--- src/lib.rt:60:1
 returns : tie.Need-returns
-returns c = ?
+returns c =
+    let t = c .before .before .before .before .before .before .before .before .before .before .before .before .before .before .before .before .before .before .before .before .before .before in
+    let p = copied t in
+    copy-refined (start p .pre) _ (p .copy .ensures) _ _ (t .turns .ensures .0) (t .turns .ensures .1)
 
 pub accepted-spec : {M : Type 1} → statement M
 accepted-spec =
@@ -72,16 +33,16 @@ accepted-spec =
     (tie.spec
     copy-requires
     turns-requires
-    same-length
-    same-length-2
-    same-length-3
-    same-length-4
-    same-length-5
-    same-length-6
-    same-length-7
-    same-length-8
-    same-length-9
-    same-length-10
-    same-length-11
-    same-length-12
+    (λ c. let t = c .before .before .before .before .before .before .before .before .before .before .before .before .before .before .before .before .before .before .before .before .before .before in t .turns .kept .1 .1 .0 ∙ copied t .copy .kept .1 .1 .1 .1 .1 .0)
+    (λ c. let t = c .before .before .before .before .before .before .before .before .before .before .before .before .before .before .before .before .before .before .before .before .before .before in t .turns .kept .1 .1 .1 .0 ∙ copied t .copy .kept .1 .1 .1 .1 .1 .1 .0)
+    (λ c. let t = c .before .before .before .before .before .before .before .before .before .before .before .before .before .before .before .before .before .before .before .before .before .before in t .turns .kept .1 .1 .1 .1 .0 ∙ copied t .copy .kept .1 .1 .1 .1 .1 .1 .1 .0)
+    (λ c. let t = c .before .before .before .before .before .before .before .before .before .before .before .before .before .before .before .before .before .before .before .before .before .before in t .turns .kept .1 .1 .1 .1 .1 .0 ∙ copied t .copy .kept .1 .1 .1 .1 .1 .1 .1 .1 .0)
+    (λ c. let t = c .before .before .before .before .before .before .before .before .before .before .before .before .before .before .before .before .before .before .before .before .before .before in t .turns .kept .1 .1 .1 .1 .1 .1 .0 ∙ copied t .copy .kept .1 .1 .1 .1 .1 .1 .1 .1 .1 .0)
+    (λ c. search needs)
+    (λ c. search needs)
+    (λ c. search needs)
+    (λ c. search needs)
+    (λ c. search needs)
+    (λ c. search needs)
+    (λ c. search needs)
     returns)

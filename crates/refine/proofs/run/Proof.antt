@@ -1,169 +1,108 @@
+-- `refine::run` meets its contract: the refusals, or the rounds. Assumes nothing.
+use mathlib.Core.Path.{_≡_, _∙_}
 use borrow.Author.Needs.{needs}
+use denote.Ref.{now}
+use lib.ListN.{length}
+use Rattle.rules.specs.Mesh.{Mesh, mesh}
+use Rattle.rules.specs.EntryPoints.{lentBy}
+use Rattle.refine.specs.Planned.{lengths}
+use Rattle.refine.proofs.Lending.{lent-is, ready-same, plan-refused, plan-ready, plan-answerable, plan-accepted}
 use Rattle.refine.proofs.run.Statement.{statement}
 use Rattle.refine.proofs.run.Tie as tie
-use Rattle.refine.proofs.run.Reads as reads
-use Rattle.refine.proofs.run.Lts as lts
-use Rattle.refine.proofs.accepted.Reads as accepted-reads
-use Rattle.refine.proofs.answer.Reads as answer-reads
-use Rattle.refine.proofs.plan.decide.Reads as decide-reads
-use Rattle.refine.proofs.tables.places.Reads as places-reads
 
--- src/lib.rt:143:9
-places-requires : tie.Need-places-requires
-places-requires c κs = search needs
+-- from the decision back to the places of the tables, and to the start
+abbrev working : tie.After-decide → tie.After-places2
+working d = d .before .before
 
--- src/lib.rt:144:9
-places-requires-2 : tie.Need-places-requires-2
-places-requires-2 c κs = search needs
+abbrev output : tie.After-decide → tie.After-places
+output d = working d .before .before .before .before .before .before
 
--- src/lib.rt:151:9
-decide-requires : tie.Need-decide-requires
-decide-requires c κs = search needs
+abbrev start : tie.After-decide → tie.Start
+start d = output d .before .before .before .before .before .before .before .before .before .before .before .before .before .before .before .before .before .before .before .before
 
--- src/lib.rt:156:9
-answer-requires : tie.Need-answer-requires
-answer-requires c κs = ?
+abbrev given : tie.Start → Mesh
+given s = let a = s .args in mesh (now (a .xs)) (now (a .hs)) (now (a .qs)) (now (a .ss)) (now (a .ps))
 
--- src/lib.rt:156:9
-same-length : tie.Need-same-length
-same-length c = search needs
+abbrev out : tie.Start → Mesh
+out s = let a = s .args in mesh (now (a .ox)) (now (a .oh)) (now (a .oq)) (now (a .os)) (now (a .op))
 
--- src/lib.rt:156:9
-same-length-2 : tie.Need-same-length-2
-same-length-2 c = search needs
+abbrev work : tie.Start → Mesh
+work s = let a = s .args in mesh (now (a .wx)) (now (a .wh)) (now (a .wq)) (now (a .ws)) (now (a .wp))
 
--- src/lib.rt:156:9
-same-length-3 : tie.Need-same-length-3
-same-length-3 c = search needs
+-- the lengths that the decision was given are those of what is lent
+lent : (d : tie.After-decide) → lengths (record { output = output d .places .result; working = working d .places2 .result; words = length (now (start d .args .words)); longs = length (now (start d .args .longs)) }) ≡ lentBy (out (start d)) (work (start d)) (now (start d .args .words)) (now (start d .args .longs))
+lent d =
+    let s = start d in
+    lent-is (out s) (work s) (now (s .args .words)) (now (s .args .longs)) (output d .places .result) (working d .places2 .result) (output d .places .ensures) (working d .places2 .ensures)
 
--- src/lib.rt:156:9
-same-length-4 : tie.Need-same-length-4
-same-length-4 c = search needs
-
--- src/lib.rt:156:9
-same-length-5 : tie.Need-same-length-5
-same-length-5 c = search needs
-
--- src/lib.rt:156:9
-same-length-6 : tie.Need-same-length-6
-same-length-6 c = search needs
-
--- src/lib.rt:156:9
-same-length-7 : tie.Need-same-length-7
-same-length-7 c = search needs
-
--- src/lib.rt:156:9
-same-length-8 : tie.Need-same-length-8
-same-length-8 c = search needs
-
--- src/lib.rt:156:9
-same-length-9 : tie.Need-same-length-9
-same-length-9 c = search needs
-
--- src/lib.rt:156:9
-same-length-10 : tie.Need-same-length-10
-same-length-10 c = search needs
-
--- src/lib.rt:156:9
-same-length-11 : tie.Need-same-length-11
-same-length-11 c = search needs
-
--- src/lib.rt:156:9
 returns : tie.Need-returns
-returns c = ?
+returns c =
+    let d = c .before .before .before .before .before .before in
+    let s = start d in
+    plan-refused (given s) (s .args .rounds) (out s) (work s) (now (s .args .words)) (now (s .args .longs)) _ _ (d .decide .ensures) (lent d) (c .before .if1 .taken) (c .refused .result) (c .refused .ensures)
 
--- src/lib.rt:158:9
 accepted-requires : tie.Need-accepted-requires
-accepted-requires c κs = ?
+accepted-requires c κs =
+    let i = c .before .before .before .before .before .before .before .before .before .before .before .before in
+    let d = i .before .before .before .before .before in
+    let s = start d in
+    ready-same (now (s .args .words)) _ (d .decide .kept .1 .1 .1 .1 .1 .1 .1 .0)
+    (plan-ready (given s) (s .args .rounds) (out s) (work s) (now (s .args .words)) (now (s .args .longs)) _ _ (d .decide .ensures) (lent d) (i .if1 .left))
 
--- src/lib.rt:179:5
-answer-requires-2 : tie.Need-answer-requires-2
-answer-requires-2 c κs = ?
+answer-requires : tie.Need-answer-requires
+answer-requires c κs =
+    let i = c .before .before .before .before .before .before .before .before .before .before .before .before .before .before .before .before .before .before .before .before .before .before .before .before .before .before .before .before .before .before .before .before .before .before .before in
+    let d = i .before .before .before .before .before in
+    let s = start d in
+    plan-answerable (given s) (s .args .rounds) (out s) (work s) (now (s .args .words)) (now (s .args .longs)) _ _ (d .decide .ensures) (lent d) (i .if1 .left)
 
--- src/lib.rt:112:1
-same-length-12 : tie.Need-same-length-12
-same-length-12 c = search needs
-
--- src/lib.rt:112:1
-same-length-13 : tie.Need-same-length-13
-same-length-13 c = search needs
-
--- src/lib.rt:112:1
-same-length-14 : tie.Need-same-length-14
-same-length-14 c = search needs
-
--- src/lib.rt:112:1
-same-length-15 : tie.Need-same-length-15
-same-length-15 c = search needs
-
--- src/lib.rt:112:1
-same-length-16 : tie.Need-same-length-16
-same-length-16 c = search needs
-
--- src/lib.rt:112:1
-same-length-17 : tie.Need-same-length-17
-same-length-17 c = search needs
-
--- src/lib.rt:112:1
-same-length-18 : tie.Need-same-length-18
-same-length-18 c = search needs
-
--- src/lib.rt:112:1
-same-length-19 : tie.Need-same-length-19
-same-length-19 c = search needs
-
--- src/lib.rt:112:1
-same-length-20 : tie.Need-same-length-20
-same-length-20 c = search needs
-
--- src/lib.rt:112:1
-same-length-21 : tie.Need-same-length-21
-same-length-21 c = search needs
-
--- src/lib.rt:112:1
+-- the working numbers keep their length
 same-length-22 : tie.Need-same-length-22
-same-length-22 c = ?
+same-length-22 c =
+    let f = c .before .before .before .before .before .before .before .before .before .before .before .before .before .before .before .before .before .before .before .before .before .before .before in
+    let d = f .before .before .before .before .before .before .before .before .before .before .before .before .before .before .before .before .before .before in
+    f .accepted .kept .1 .1 .1 .1 .1 .1 .1 .1 .1 .1 .1 .1 .1 .1 .1 .1 .1 .0 ∙ d .decide .kept .1 .1 .1 .1 .1 .1 .1 .0
 
--- src/lib.rt:112:1
-same-length-23 : tie.Need-same-length-23
-same-length-23 c = search needs
-
--- src/lib.rt:112:1
 returns-2 : tie.Need-returns-2
-returns-2 c = ?
+returns-2 c =
+    let f = c .before .before .before .before .before .before .before .before .before .before .before .before .before .before .before .before .before .before .before .before .before .before .before in
+    let i = f .before .before .before .before .before .before .before .before .before .before .before .before .before in
+    let d = i .before .before .before .before .before in
+    let s = start d in
+    plan-accepted (given s) (s .args .rounds) (out s) (work s) (now (s .args .words)) (now (s .args .longs)) _ _ (d .decide .ensures) (lent d) (i .if1 .left) (f .accepted .result) (c .answer .result) _ (f .accepted .ensures .0) (c .answer .ensures) (f .accepted .ensures .1)
 
 pub run-spec : {M : Type 1} → statement M
 run-spec =
     tie.close
     (tie.spec
-    places-requires
-    places-requires-2
-    decide-requires
-    answer-requires
-    same-length
-    same-length-2
-    same-length-3
-    same-length-4
-    same-length-5
-    same-length-6
-    same-length-7
-    same-length-8
-    same-length-9
-    same-length-10
-    same-length-11
+    (λ c κs. search needs)
+    (λ c κs. search needs)
+    (λ c κs. search needs)
+    (λ c κs. c .if1 .taken)
+    (λ c. search needs)
+    (λ c. search needs)
+    (λ c. search needs)
+    (λ c. search needs)
+    (λ c. search needs)
+    (λ c. search needs)
+    (λ c. search needs)
+    (λ c. search needs)
+    (λ c. search needs)
+    (λ c. search needs)
+    (λ c. search needs)
     returns
     accepted-requires
-    answer-requires-2
-    same-length-12
-    same-length-13
-    same-length-14
-    same-length-15
-    same-length-16
-    same-length-17
-    same-length-18
-    same-length-19
-    same-length-20
-    same-length-21
+    answer-requires
+    (λ c. search needs)
+    (λ c. search needs)
+    (λ c. search needs)
+    (λ c. search needs)
+    (λ c. search needs)
+    (λ c. search needs)
+    (λ c. search needs)
+    (λ c. search needs)
+    (λ c. search needs)
+    (λ c. search needs)
     same-length-22
-    same-length-23
+    (λ c. search needs)
     returns-2)
