@@ -1,0 +1,9 @@
+-- Laws that the proofs of the averaging share.
+-- Sums: sums of numbers 0 .. n - 1.
+pub mod Sums
+-- Triples: three elements stored at 3 f, 3 f + 1, 3 f + 2.
+pub mod Triples
+-- Stores: what the stores of a vertex's numbers make of its tally.
+pub mod Stores
+-- Steps: laws of steps over tallies, and that the tallies fit.
+pub mod Steps

@@ -1,0 +1,7 @@
+-- What the averaging of a round is about.
+-- Sums: sums of numbers 0 .. n - 1.
+pub mod Sums
+-- Tally: what is kept for each fine vertex, and what cells add to it.
+pub mod Tally
+-- Pass: what the pass over a table needs, and what it leaves.
+pub mod Pass
