@@ -7,3 +7,5 @@ pub mod Triples
 pub mod Stores
 -- Steps: laws of steps over tallies, and that the tallies fit.
 pub mod Steps
+-- Weights: the weights of a cell's corners in its children, by the rules.
+pub mod Weights

@@ -1,0 +1,142 @@
+-- The split positions of all corners of a child, in eighths, summed: each corner of the parent has a weight. By the rules it comes from the
+-- smallest parts that hold the child's corner. Assumes nothing.
+use mathlib.Core.Path.{_≡_, refl, sym, ap, ap₂, subst, _∙_}
+use mathlib.Core.Bool.{Bool, true, false, cond}
+use mathlib.Core.Logic.{inl, inr}
+use mathlib.Core.List.{List, [], _∷_, map}
+use Prim.Native.Nat.{ℕ, zero, suc, _+_, _*_, _/_, _<_, _≤_}
+use native.Mathlib.Omega.{arith}
+use native.Mathlib.Nat.{zero-add}
+use lib.ListN.{length, getD, length-map}
+use lib.Dec.{eqb, leb}
+use borrow.Author.Tests.{eq-eqb, ne-eqb}
+use Rattle.rules.specs.Lists.{Each, concatMap, upFrom, Key, insert, keyOf}
+use Rattle.rules.specs.Mesh.{Kind, hex, quad, segment, point, corners, whole, cellParts, smallest}
+use Rattle.rules.specs.Split.{cornersAt, keyAt}
+use Rattle.rules.specs.Means.{Draw}
+use Rattle.rules.specs.Averaging.{eighths, cellDraws}
+use Rattle.lists.specs.Membership.{In}
+use Rattle.lists.proofs.Membership.{in-map, getD-run}
+use Rattle.lists.proofs.Each.{each-in, each-concatMap}
+use Rattle.lists.proofs.Keys.{length-key}
+use Rattle.rounding.proofs.Draws.{natTotal, natTotal-append}
+use Rattle.soundness.proofs.CellParts.{placed, smallest-part}
+use Rattle.soundness.proofs.Cells.{whole-below}
+use Rattle.averaging.specs.Sums.{sumTo}
+use Rattle.averaging.specs.Pass.{weighed}
+use Rattle.averaging.proofs.Sums.{sumTo-same, sumTo-plus, sumTo-single, sumTo-none}
+
+-- ---- the weights
+
+-- what child i draws on, by the places of its parent's corners
+unfoldable pub childDraws : Kind → ℕ → List Draw
+childDraws κ i = concatMap (λ (j : ℕ). eighths (smallest κ i j)) (whole κ)
+
+-- how many eighths of place u are counted
+unfoldable pub weightAt : List Draw → ℕ → ℕ
+weightAt ts u = natTotal ts (λ (q : ℕ). cond (eqb u q) 1 0)
+
+-- a row for each child, and in it a weight for each of 8 places
+unfoldable pub weightRows : Kind → List (List ℕ)
+weightRows κ = map (λ (i : ℕ). map (weightAt (childDraws κ i)) (upFrom 0 8)) (whole κ)
+
+pub weights-at : (κ : Kind) (i u : ℕ) → i < corners κ → u < 8 → getD (getD (weightRows κ) i []) u 0 ≡ weightAt (childDraws κ i) u
+unfolding weightRows whole
+weights-at κ i u h k =
+    ap (λ (row : List ℕ). getD row u 0) (getD-run (λ (i : ℕ). map (weightAt (childDraws κ i)) (upFrom 0 8)) [] 0 (corners κ) i h)
+    ∙ getD-run (weightAt (childDraws κ (0 + i))) 0 0 8 u k
+    ∙ ap₂ (λ (i u : ℕ). weightAt (childDraws κ i) u) (zero-add i) (zero-add u)
+
+-- ---- draws collected by place
+
+pub collected : (n : ℕ) (e : ℕ → ℕ) (ts : List Draw) → Each (λ (t : Draw). t .vertex < n) ts → natTotal ts e ≡ sumTo n (λ (u : ℕ). weightAt ts u * e u)
+unfolding weightAt
+collected n e [] g = sym (sumTo-none n (λ (u : ℕ). 0 * e u) (λ u h. omega arith))
+collected n e (t ∷ ts) g =
+    let v = t .vertex in
+    let w = t .weight in
+    let one : ℕ → ℕ = λ u. w * cond (eqb u v) 1 0 * e u in
+    let rest : ℕ → ℕ = λ u. weightAt ts u * e u in
+    let single : sumTo n one ≡ w * e v =
+    sumTo-single n v one (g .0) (λ u h d. ap (λ (b : Bool). w * cond b 1 0 * e u) (ne-eqb u v d) ∙ none w (e u)) ∙ ap (λ (b : Bool). w * cond b 1 0 * e v) (eq-eqb v v refl) ∙ all-of w (e v) in
+    ap₂ _+_ (sym single) (collected n e ts (g .1))
+    ∙ sym (sumTo-plus n one rest)
+    ∙ sumTo-same n (λ (u : ℕ). one u + rest u) (λ (u : ℕ). (w * cond (eqb u v) 1 0 + weightAt ts u) * e u) (λ u h. omega arith)
+  where
+    none : (w x : ℕ) → w * 0 * x ≡ 0
+    none w x = omega arith
+
+    all-of : (w x : ℕ) → w * 1 * x ≡ w * x
+    all-of w x = omega arith
+
+total-same : (n : ℕ) (e e' : ℕ → ℕ) (ts : List Draw) → Each (λ (t : Draw). t .vertex < n) ts → ((u : ℕ) → u < n → e u ≡ e' u) → natTotal ts e ≡ natTotal ts e'
+total-same n e e' [] g h = refl
+total-same n e e' (t ∷ ts) g h = ap₂ (λ (x y : ℕ). t .weight * x + y) (h (t .vertex) (g .0)) (total-same n e e' ts (g .1) h)
+
+-- ---- the split position of a part of a cell, by the places of the part's corners
+
+abbrev shares : ℕ → List ℕ → List Draw
+shares w p = map (λ (u : ℕ). record { vertex = u; weight = w }) p
+
+insert-total : (w : ℕ) (e : ℕ → ℕ) (x : ℕ) (xs : List ℕ) → natTotal (shares w (insert x xs)) e ≡ w * e x + natTotal (shares w xs) e
+unfolding insert
+insert-total w e x [] = refl
+insert-total w e x (y ∷ ys) = go (leb x y) (insert-total w e x ys)
+  where
+    go : (b : Bool) → natTotal (shares w (insert x ys)) e ≡ w * e x + natTotal (shares w ys) e → natTotal (shares w (cond b (x ∷ y ∷ ys) (y ∷ insert x ys))) e ≡ w * e x + (w * e y + natTotal (shares w ys) e)
+    go true h = refl
+    go false h = omega arith
+
+key-total : (w : ℕ) (e : ℕ → ℕ) (xs : List ℕ) → natTotal (shares w (keyOf xs)) e ≡ natTotal (shares w xs) e
+unfolding keyOf
+key-total w e [] = refl
+key-total w e (x ∷ xs) = insert-total w e x (keyOf xs) ∙ ap (λ (n : ℕ). w * e x + n) (key-total w e xs)
+
+place-total : (w : ℕ) (e at : ℕ → ℕ) (p : List ℕ) → natTotal (shares w (map at p)) e ≡ natTotal (shares w p) (λ (q : ℕ). e (at q))
+place-total w e at [] = refl
+place-total w e at (i ∷ p) = ap (λ (n : ℕ). w * e (at i) + n) (place-total w e at p)
+
+part-total : (e : ℕ → ℕ) (cell p : List ℕ) → natTotal (eighths (keyAt cell p)) e ≡ natTotal (eighths p) (λ (q : ℕ). e (getD cell q 0))
+unfolding eighths keyAt cornersAt
+part-total e cell p =
+    let at : ℕ → ℕ = λ i. getD cell i 0 in
+    ap (λ (n : ℕ). natTotal (shares (8 / n) (keyOf (map at p))) e) (length-key (map at p) ∙ length-map p at)
+    ∙ key-total (8 / length p) e (map at p)
+    ∙ place-total (8 / length p) e at p
+
+-- ---- a child: from the parts that its corners stand for, its total is that by the weights
+
+-- the corners at the places js: number j is that of the part at the places part j
+corners-total : (e : ℕ → ℕ) (numbered : List Key) (cell : List ℕ) (number : ℕ → ℕ) (part : ℕ → List ℕ) (js : List ℕ) → ((j : ℕ) → In j js → getD numbered (number j) [] ≡ keyAt cell (part j))
+    → natTotal (cellDraws numbered (map number js)) e ≡ natTotal (concatMap (λ (j : ℕ). eighths (part j)) js) (λ (q : ℕ). e (getD cell q 0))
+unfolding cellDraws concatMap
+corners-total e numbered cell number part [] g = refl
+corners-total e numbered cell number part (j ∷ js) g =
+    natTotal-append e (eighths (getD numbered (number j) [])) (cellDraws numbered (map number js))
+    ∙ ap₂ _+_ (ap (λ (k : Key). natTotal (eighths k) e) (g j (inl refl)) ∙ part-total e cell (part j)) (corners-total e numbered cell number part js (λ j i. g j (inr i)))
+    ∙ sym (natTotal-append (λ (q : ℕ). e (getD cell q 0)) (eighths (part j)) (concatMap (λ (j : ℕ). eighths (part j)) js))
+
+-- a child draws on its parent's corners
+draws-inside : (κ : Kind) (i : ℕ) → In i (whole κ) → Each (λ (t : Draw). t .vertex < corners κ) (childDraws κ i)
+unfolding childDraws eighths
+draws-inside κ i h =
+    let Below : Draw → Type 0 = λ t. t .vertex < corners κ in
+    each-concatMap Below (λ (j : ℕ). eighths (smallest κ i j)) (whole κ) .1 (each-in (λ (j : ℕ). Each Below (eighths (smallest κ i j))) (whole κ) .1 (λ j k.
+    let p = smallest κ i j in
+    each-in Below (eighths p) .1 (λ t m.
+    let q = in-map (λ (u : ℕ). record { vertex = u; weight = 8 / length p }) p t m in
+    subst Below (sym (q .2)) (whole-below κ (q .0) (placed κ p (smallest-part κ i h j k) (q .0) (q .1))))))
+
+-- at: the corners' coordinates by their places
+pub child-total : (κ : Kind) (e at : ℕ → ℕ) (numbered : List Key) (cell : List ℕ) (number : ℕ → ℕ) (i : ℕ) → In i (whole κ)
+    → ((j : ℕ) → In j (whole κ) → getD numbered (number j) [] ≡ keyAt cell (smallest κ i j))
+    → ((u : ℕ) → u < corners κ → e (getD cell u 0) ≡ at u)
+    → natTotal (cellDraws numbered (map number (whole κ))) e ≡ weighed (getD (weightRows κ) i []) at
+unfolding childDraws weighed
+child-total κ e at numbered cell number i h numbers placed-at =
+    let inside = draws-inside κ i h in
+    let most : corners κ ≤ 8 = ?most in
+    corners-total e numbered cell number (smallest κ i) (whole κ) numbers
+    ∙ total-same (corners κ) (λ (q : ℕ). e (getD cell q 0)) at (childDraws κ i) inside placed-at
+    ∙ collected 8 at (childDraws κ i) (each-in (λ (t : Draw). t .vertex < 8) (childDraws κ i) .1 (λ t m. let l = each-in (λ (t : Draw). t .vertex < corners κ) (childDraws κ i) .0 inside t m in omega arith))
+    ∙ sumTo-same 8 (λ (u : ℕ). weightAt (childDraws κ i) u * at u) (λ (u : ℕ). getD (getD (weightRows κ) i []) u 0 * at u) (λ u l. ap (λ (w : ℕ). w * at u) (sym (weights-at κ i u (whole-below κ i h) l)))
