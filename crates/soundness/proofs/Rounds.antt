@@ -85,22 +85,15 @@ refined-sizes (suc n) m s =
 same-counts : {a a′ b b′ c c′ d d′ e e′ : ℕ} → a ≡ a′ → b ≡ b′ → c ≡ c′ → d ≡ d′ → e ≡ e′ → _≡_ {A = Counts} (record { vertices = a; hexes = b; quads = c; segments = d; points = e }) (record { vertices = a′; hexes = b′; quads = c′; segments = d′; points = e′ })
 same-counts p q r s t = λ i. record { vertices = p i; hexes = q i; quads = r i; segments = s i; points = t i }
 
--- the counts among the sizes
-abbrev pub tables : Sizes → Counts
-tables s = record { vertices = s .vertices; hexes = s .hexes; quads = s .quads; segments = s .segments; points = s .points }
-
-pub finished-tables : (n : ℕ) (t : Topology) → finishedCounts n t ≡ tables (sizesAfter n (sizes t))
-unfolding finishedCounts countsIn
-finished-tables n t = refl
-
 -- the counts of a mesh's tables are those of its topology
-pub counts-now : (m : Mesh) → countsOf m ≡ tables (sizes (topology m))
-unfolding countsOf sizes topology
+pub counts-now : (m : Mesh) → countsOf m ≡ countsIn (sizes (topology m))
+unfolding countsOf countsIn sizes topology
 counts-now m = same-counts refl (sym (length-cut 8 (m .hexes))) (sym (length-cut 4 (m .quads))) (sym (length-cut 2 (m .segments))) (sym (length-cut 1 (m .points)))
 
 -- the finished counts, known before any round
 pub refined-counts : (n : ℕ) (m : Mesh) → Sound (topology m) → countsOf (refined n m) ≡ finishedCounts n (topology m)
-refined-counts n m s = counts-now (refined n m) ∙ ap tables (refined-sizes n m s) ∙ sym (finished-tables n (topology m))
+unfolding finishedCounts
+refined-counts n m s = counts-now (refined n m) ∙ ap countsIn (refined-sizes n m s)
 
 -- ---- the ranges
 
