@@ -7,5 +7,11 @@ pub mod Triples
 pub mod Stores
 -- Steps: laws of steps over tallies, and that the tallies fit.
 pub mod Steps
+-- Folds: steps over the elements of a list.
+pub mod Folds
 -- Weights: the weights of a cell's corners in its children, by the rules.
 pub mod Weights
+-- Passed: a pass over the cells in rising dimension leaves the rank, the valence and the sum that the rules count.
+pub mod Passed
+-- Children: the pass over a table is that over its children.
+pub mod Children

@@ -11,10 +11,10 @@ use borrow.Author.Tests.{eqb-true, eqb-false, le-leb, lt-leb}
 use Rattle.averaging.specs.Tally.{Tally, tallyAt, counting, cornerStep, Room}
 use Rattle.averaging.proofs.Triples.{on-axes, triple, triple-at, triple-each, triple-other}
 
-abbrev tally : ℕ → ℕ → ℕ → Tally
+abbrev pub tally : ℕ → ℕ → ℕ → Tally
 tally r k s = record { rank = r; valence = k; sum = s }
 
-tally-same : {r r' k k' s s' : ℕ} → r ≡ r' → k ≡ k' → s ≡ s' → tally r k s ≡ tally r' k' s'
+pub tally-same : {r r' k k' s s' : ℕ} → r ≡ r' → k ≡ k' → s ≡ s' → tally r k s ≡ tally r' k' s'
 tally-same e f g = cc
 
 module _ (words longs : List ℕ) (v : ℕ) (fits : 2 * v + 1 < length words) (fits' : 3 * v + 2 < length longs) where

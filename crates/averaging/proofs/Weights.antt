@@ -127,6 +127,12 @@ draws-inside κ i h =
     let q = in-map (λ (u : ℕ). record { vertex = u; weight = 8 / length p }) p t m in
     subst Below (sym (q .2)) (whole-below κ (q .0) (placed κ p (smallest-part κ i h j k) (q .0) (q .1))))))
 
+pub corners-most : (κ : Kind) → corners κ ≤ 8
+corners-most hex = omega arith
+corners-most quad = omega arith
+corners-most segment = omega arith
+corners-most point = omega arith
+
 -- at: the corners' coordinates by their places
 pub child-total : (κ : Kind) (e at : ℕ → ℕ) (numbered : List Key) (cell : List ℕ) (number : ℕ → ℕ) (i : ℕ) → In i (whole κ)
     → ((j : ℕ) → In j (whole κ) → getD numbered (number j) [] ≡ keyAt cell (smallest κ i j))
@@ -135,7 +141,7 @@ pub child-total : (κ : Kind) (e at : ℕ → ℕ) (numbered : List Key) (cell :
 unfolding childDraws weighed
 child-total κ e at numbered cell number i h numbers placed-at =
     let inside = draws-inside κ i h in
-    let most : corners κ ≤ 8 = ?most in
+    let most = corners-most κ in
     corners-total e numbered cell number (smallest κ i) (whole κ) numbers
     ∙ total-same (corners κ) (λ (q : ℕ). e (getD cell q 0)) at (childDraws κ i) inside placed-at
     ∙ collected 8 at (childDraws κ i) (each-in (λ (t : Draw). t .vertex < 8) (childDraws κ i) .1 (λ t m. let l = each-in (λ (t : Draw). t .vertex < corners κ) (childDraws κ i) .0 inside t m in omega arith))

@@ -5,3 +5,5 @@ pub mod Sums
 pub mod Tally
 -- Pass: what the pass over a table needs, and what it leaves.
 pub mod Pass
+-- Ready: what the averaging of a round needs.
+pub mod Ready
