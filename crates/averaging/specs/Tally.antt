@@ -38,7 +38,7 @@ unfoldable pub cornerStep : ℕ → ℕ → ℕ → ℕ → Tally → Tally
 cornerStep d s g f t = cond (eqb f g) (counting d s t) t
 
 -- Words and longs were changed by a step on each axis, and no length was.
-pub record Tallied (step : ℕ → ℕ → Tally → Tally) (words longs words' longs' : List ℕ) : Type 0 where
+pub record Changed (step : ℕ → ℕ → Tally → Tally) (words longs words' longs' : List ℕ) : Type 0 where
   pub words-kept : length words' ≡ length words
   pub longs-kept : length longs' ≡ length longs
   pub each : (a f : ℕ) → a < 3 → tallyAt words' longs' a f ≡ step a f (tallyAt words longs a f)
@@ -49,3 +49,12 @@ pub record Tallied (step : ℕ → ℕ → Tally → Tally) (words longs words' 
 pub record Room (k : ℕ) (t : Tally) : Type 0 where
   pub few : t .valence + k ≤ 2 ^ 22
   pub small : t .sum ≤ t .valence * 2 ^ 41
+
+-- a step counts at most k cells
+abbrev pub Within : ℕ → (Tally → Tally) → Type 0
+Within k step = (m : ℕ) (t : Tally) → Room (k + m) t → Room m (step t)
+
+-- Words and longs were changed by a step that counts at most k cells for a vertex.
+pub record Tallied (k : ℕ) (step : ℕ → ℕ → Tally → Tally) (words longs words' longs' : List ℕ) : Type 0 where
+  pub changed : Changed step words longs words' longs'
+  pub within : (a f : ℕ) → a < 3 → Within k (step a f)

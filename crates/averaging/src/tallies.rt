@@ -1,12 +1,11 @@
 // The tallies of the fine vertices: vertex f has its rank at 2 f and its valence at 2 f + 1 of `words`, and its three sums from 3 f on of `longs`.
 ghost use mathlib.Core.Path.{_≡_};
 ghost use mathlib.Core.Bool.{cond};
-ghost use mathlib.Core.List.{[]};
 ghost use Prim.Native.Nat.{ℕ, _+_, _*_, _≤_, _<_, _^_};
 ghost use lib.ListN.{length, getD};
 ghost use lib.Dec.{eqb};
-ghost use Rattle.averaging.specs.Tally.{Tally, tallyAt, nothing, cornerStep, Tallied, Room};
-ghost use Rattle.averaging.specs.Pass.{gatheredAt, weighed, childStep, cellStep, tableStep, Coarse, Fine};
+ghost use Rattle.averaging.specs.Tally.{Tally, tallyAt, nothing, cornerStep, Changed, Room, Tallied};
+ghost use Rattle.averaging.specs.Pass.{gatheredAt, childStep, cellStep, tableStep, Coarse, Fine};
 use crate::coordinates::child_sums;
 use crate::coordinates::gather;
 use crate::coordinates::vertex_at;
@@ -20,7 +19,7 @@ fn store(
     longs: &mut [u64],
 )
     requires { ⌜ (2 * vertex + 1 < length (now words)) × (3 * vertex + 2 < length (now longs)) ⌝ }
-    ensures { λ _. ⌜ Tallied (λ (a f : ℕ) (t : Tally). cond (eqb f vertex) (record { rank = rank; valence = valence; sum = getD sums a 0 }) t) (now (words .entry)) (now (longs .entry)) (now (words .exit)) (now (longs .exit)) ⌝ }
+    ensures { λ _. ⌜ Changed (λ (a f : ℕ) (t : Tally). cond (eqb f vertex) (record { rank = rank; valence = valence; sum = getD sums a 0 }) t) (now (words .entry)) (now (longs .entry)) (now (words .exit)) (now (longs .exit)) ⌝ }
 {
     words[2 * vertex] = rank;
     words[2 * vertex + 1] = valence;
@@ -47,7 +46,7 @@ fn count_at(vertex: usize, d: u32, sums: [u64; 3], words: &mut [u32], longs: &mu
     requires { ⌜ (2 * vertex + 1 < length (now words)) × (3 * vertex + 2 < length (now longs)) ⌝ }
     requires { ⌜ ((a : ℕ) → a < 3 → Room 1 (tallyAt (now words) (now longs) a vertex)) ⌝ }
     requires { ⌜ ((a : ℕ) → a < 3 → getD sums a 0 < 2 ^ 41) ⌝ }
-    ensures { λ _. ⌜ Tallied (λ (a : ℕ). cornerStep d (getD sums a 0) vertex) (now (words .entry)) (now (longs .entry)) (now (words .exit)) (now (longs .exit)) ⌝ }
+    ensures { λ _. ⌜ Tallied 1 (λ (a : ℕ). cornerStep d (getD sums a 0) vertex) (now (words .entry)) (now (longs .entry)) (now (words .exit)) (now (longs .exit)) ⌝ }
 {
     if d <= words[2 * vertex] {
         let valence = words[2 * vertex + 1] + 1;
@@ -70,7 +69,7 @@ fn count_child(
 )
     requires { ⌜ Fine at n n (now fine) (now words) (now longs) ⌝ }
     requires { ⌜ ((a : ℕ) → a < 3 → getD sums a 0 < 2 ^ 41) ⌝ }
-    ensures { λ _. ⌜ Tallied (λ (a : ℕ). childStep n (now (fine .entry)) at d (getD sums a 0)) (now (words .entry)) (now (longs .entry)) (now (words .exit)) (now (longs .exit)) ⌝ }
+    ensures { λ _. ⌜ Tallied n (λ (a : ℕ). childStep n (now (fine .entry)) at d (getD sums a 0)) (now (words .entry)) (now (longs .entry)) (now (words .exit)) (now (longs .exit)) ⌝ }
 {
     let mut j = 0;
     while j < n {
@@ -93,8 +92,7 @@ fn count_cell(
 )
     requires { ⌜ (n ≤ 8) × (n ≤ length (now weights)) × Fine base (n * n) (n * n) (now fine) (now words) (now longs) ⌝ }
     requires { ⌜ ((q : ℕ) → getD (now gathered) q 0 < 2 ^ 30) ⌝ }
-    ensures { λ _. ⌜ Tallied (λ (a : ℕ). cellStep n (now (weights .entry)) (gatheredAt (now (gathered .entry)) a) (now (fine .entry)) base d) (now (words .entry)) (now (longs .entry)) (now (words .exit)) (now (longs .exit)) ⌝ }
-    ensures { λ _. ⌜ ((a i : ℕ) → a < 3 → i < n → weighed (getD (now (weights .entry)) i []) (gatheredAt (now (gathered .entry)) a) < 2 ^ 41) ⌝ }
+    ensures { λ _. ⌜ Tallied (n * n) (λ (a : ℕ). cellStep n (now (weights .entry)) (gatheredAt (now (gathered .entry)) a) (now (fine .entry)) base d) (now (words .entry)) (now (longs .entry)) (now (words .exit)) (now (longs .exit)) ⌝ }
 {
     let mut i = 0;
     while i < n {
@@ -117,7 +115,7 @@ pub fn count_table(
     longs: &mut [u64],
 )
     requires { ⌜ (n ≤ length (now weights)) × Coarse n k (now corners) (now xs) × Fine 0 (n * n * k) (n * n * k) (now fine) (now words) (now longs) ⌝ }
-    ensures { λ _. ⌜ Tallied (tableStep k n (now (weights .entry)) (now (corners .entry)) (now (xs .entry)) (now (fine .entry)) d) (now (words .entry)) (now (longs .entry)) (now (words .exit)) (now (longs .exit)) ⌝ }
+    ensures { λ _. ⌜ Tallied (n * n * k) (tableStep k n (now (weights .entry)) (now (corners .entry)) (now (xs .entry)) (now (fine .entry)) d) (now (words .entry)) (now (longs .entry)) (now (words .exit)) (now (longs .exit)) ⌝ }
 {
     let mut c = 0;
     while c < k {

@@ -5,6 +5,7 @@ use native.Mathlib.Omega.{arith}
 use borrow.Author.Needs.{needs}
 use lib.Dec.{lit<}
 use Rattle.averaging.proofs.Stores.{counts, counts-not, sum-fits}
+use Rattle.averaging.proofs.Steps.{corner-within}
 use Rattle.averaging.proofs.tallies.count_at.Statement.{statement}
 use Rattle.averaging.proofs.tallies.count_at.Tie as tie
 
@@ -31,18 +32,26 @@ add-z-2 c =
 
 returns : tie.Need-returns
 returns c =
-    let a = c .before .before .before .before .before .before .before .before .before .before .before .before .before .before .before .args in
-    let s = c .before .before .before .before .store .ensures in
+    let s = c .before .before .before .before .before .before .before .before .before .before .before .before .before .before .before in
+    let a = s .args in
+    let e = c .before .before .before .before .store .ensures in
     record {
-      words-kept = s .words-kept;
-      longs-kept = s .longs-kept;
-      each = λ x f h. s .each x f h ∙ counts (a .words .now) (a .longs .now) (a .vertex) (a .d) (a .t3) (c .before .before .before .before .before .before .before .before .before .before .before .if1 .taken) x f h;
+      changed = record {
+        words-kept = e .words-kept;
+        longs-kept = e .longs-kept;
+        each = λ x f h. e .each x f h ∙ counts (a .words .now) (a .longs .now) (a .vertex) (a .d) (a .t3) (c .before .before .before .before .before .before .before .before .before .before .before .if1 .taken) x f h;
+      };
+      within = λ x f h. corner-within (a .d) _ (a .vertex) f (s .pre .1 .1 x h);
     }
 
 returns-2 : tie.Need-returns-2
 returns-2 c =
-    let a = c .before .before .before .before .args in
-    record { words-kept = refl; longs-kept = refl; each = λ x f h. counts-not (a .words .now) (a .longs .now) (a .vertex) (a .d) (a .t3) (c .if1 .left) x f }
+    let s = c .before .before .before .before in
+    let a = s .args in
+    record {
+      changed = record { words-kept = refl; longs-kept = refl; each = λ x f h. counts-not (a .words .now) (a .longs .now) (a .vertex) (a .d) (a .t3) (c .if1 .left) x f };
+      within = λ x f h. corner-within (a .d) _ (a .vertex) f (s .pre .1 .1 x h);
+    }
 
 pub count-at-spec : {M : Type 1} → statement M
 count-at-spec =

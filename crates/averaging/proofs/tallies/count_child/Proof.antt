@@ -1,19 +1,19 @@
 -- `averaging::tallies::count_child` meets its contract. The loop's invariant: the child has counted for the corners passed.
 -- The measure is the corners left. Assumes nothing.
-use mathlib.Core.Path.{_≡_, sym, subst}
-use Prim.Native.Nat.{ℕ, _+_, _*_, _-_, _≤_, _<_, _^_}
+use mathlib.Core.Path.{refl}
+use Prim.Native.Nat.{ℕ, _+_, _-_, _≤_}
 use native.Mathlib.Omega.{arith}
 use borrow.Author.Needs.{needs}
-use lib.ListN.{length, getD}
-use Rattle.averaging.specs.Tally.{tallyAt, repeat, cornerStep, Tallied, Room}
+use lib.ListN.{getD}
+use Rattle.averaging.specs.Tally.{repeat, cornerStep, Tallied}
 use Rattle.averaging.specs.Pass.{childStep, Fine}
-use Rattle.averaging.proofs.Steps.{Within, tallied-start, tallied-again, tallied-end, repeat-within, corner-within, fine-part, fine-after}
+use Rattle.averaging.proofs.Steps.{tallied-start, tallied-again, tallied-end, fine-part, fine-after}
 use Rattle.averaging.proofs.tallies.count_child.Statement.{statement}
 use Rattle.averaging.proofs.tallies.count_child.Tie as tie
 
 abbrev Inv-loop : tie.InvT-loop
 Inv-loop fine at n d sums words₀ longs₀ j₀ words longs j =
-    (j ≤ n) × Tallied (λ (a : ℕ). repeat j (λ (j : ℕ). cornerStep d (getD sums a 0) (getD fine (at + j) 0))) words₀ longs₀ words longs
+    (j ≤ n) × Tallied j (λ (a : ℕ). repeat j (λ (j : ℕ). cornerStep d (getD sums a 0) (getD fine (at + j) 0))) words₀ longs₀ words longs
 
 abbrev μ-loop : tie.MeasureT-loop
 μ-loop fine at n d sums words₀ longs₀ j₀ words longs j = n - j
@@ -24,8 +24,7 @@ count-at-requires c κs =
     let l = c .before .before .before .before .loop in
     let p = s .args .at + l .j in
     let left : Fine (s .args .at) (s .args .n) 1 (s .args .fine .now) (l .words) (l .longs) =
-    fine-after (l .j * 1) (l .inv .1) (λ a f h. repeat-within (l .j) 1 (λ (j : ℕ). cornerStep (s .args .d) (getD (s .args .sums) a 0) (getD (s .args .fine .now) (s .args .at + j) 0)) f (λ j i. corner-within _ _ _ f (s .pre .1 a h)))
-    (fine-part (omega arith) (omega arith) (omega arith) (s .pre .0)) in
+    fine-after (l .j) (l .inv .1) (fine-part (omega arith) (omega arith) (omega arith) (s .pre .0)) in
     rw (c .before .before .vertex-at .ensures)
     ((left .ranked p (omega arith) (omega arith), left .summed p (omega arith) (omega arith)), (λ a h. left .room p a (omega arith) (omega arith) h, s .pre .1))
 
@@ -33,13 +32,13 @@ loop-again : tie.Need-loop-again Inv-loop μ-loop
 loop-again c =
     let a = c .before .before .before .before .before .before .before .before .before .before .before .before .before .args in
     let l = c .before .before .before .before .before .before .before .before .before .loop in
-    (omega arith, tallied-again (λ (x j : ℕ). cornerStep (a .d) (getD (a .sums) x 0) (getD (a .fine .now) (a .at + j) 0)) (l .j) (l .inv .1) (rw (c .before .before .before .before .before .before .before .vertex-at .ensures) at (c .before .before .before .before .count-at .ensures)))
+    (omega arith, tallied-again (λ (x j : ℕ). cornerStep (a .d) (getD (a .sums) x 0) (getD (a .fine .now) (a .at + j) 0)) (l .j) refl (l .inv .1) (rw (c .before .before .before .before .before .before .before .vertex-at .ensures) at (c .before .before .before .before .count-at .ensures)))
 
 returns : tie.Need-returns Inv-loop μ-loop
 unfolding childStep
 returns c =
     let a = c .before .before .before .before .before .args in
-    tallied-end (λ (x j : ℕ). cornerStep (a .d) (getD (a .sums) x 0) (getD (a .fine .now) (a .at + j) 0)) (omega arith) (c .before .loop .inv .1)
+    tallied-end (λ (j : ℕ). j) (λ (x j : ℕ). cornerStep (a .d) (getD (a .sums) x 0) (getD (a .fine .now) (a .at + j) 0)) (omega arith) (c .before .loop .inv .1)
 
 pub count-child-spec : {M : Type 1} → statement M
 count-child-spec =
@@ -47,13 +46,13 @@ count-child-spec =
     (tie.spec
     Inv-loop
     μ-loop
-    (λ c. (omega arith, tallied-start _ _ _))
+    (λ c. (omega arith, tallied-start _ _ _ _))
     (λ c. omega (arith, c .before .before .before .before .before .pre .0 .whole))
     (λ c κs. omega (arith, c .before .before .before .before .before .pre .0 .whole))
     count-at-requires
     (λ c. search needs)
     (λ c. search needs)
     loop-again
-    (λ c. c .before .loop .inv .1 .words-kept)
-    (λ c. c .before .loop .inv .1 .longs-kept)
+    (λ c. c .before .loop .inv .1 .changed .words-kept)
+    (λ c. c .before .loop .inv .1 .changed .longs-kept)
     returns)
