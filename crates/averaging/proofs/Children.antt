@@ -47,7 +47,7 @@ once-counted d s f (g ∷ gs) o t = go (eqb f g) refl (once-counted d s f gs (o 
     go true e r = r (counting d s t) ∙ ap (λ (b : Bool). cond b (counting d s (counting d s t)) (counting d s t)) (not-has f gs (λ i. o .0 (subst (λ (x : ℕ). In x gs) (eqb-true f g e) i)))
     go false e r = r t
 
-corners-some : (κ : Kind) → 0 < corners κ
+pub corners-some : (κ : Kind) → 0 < corners κ
 corners-some hex = omega arith
 corners-some quad = omega arith
 corners-some segment = omega arith
@@ -59,6 +59,10 @@ cells-cut m hex = refl
 cells-cut m quad = refl
 cells-cut m segment = refl
 cells-cut m point = refl
+
+-- the split positions of all corners of a fine cell, in eighths, on axis a
+abbrev pub value : Mesh → ℕ → List ℕ → ℕ
+value m a c = natTotal (cellDraws (parts (topology m)) c) (λ (u : ℕ). biased (m .vertices) (3 * u + a))
 
 -- ---- one table
 
@@ -127,30 +131,23 @@ module _ (m : Mesh) (s : Sound (topology m)) (κ : Kind) where
 
   -- ---- on one axis, for one vertex
 
-  module _ (a f : ℕ) (axis : a < 3) where
-    abbrev xs : List ℤ
-    xs = m .vertices
-
-    -- the split positions of all corners of a fine cell
-    abbrev pub value : List ℕ → ℕ
-    value c = natTotal (cellDraws (parts (topology m)) c) (λ (u : ℕ). biased (m .vertices) (3 * u + a))
-
+  module _ (a f : ℕ) where
     abbrev at : ℕ → ℕ → ℕ
     at c = cornerCoordinate (corners κ) (table m κ) (corners κ * c) (m .vertices) a
 
-    born-value : (c i : ℕ) → c < length cells → i < n → value (born c i) ≡ weighed (getD (weightRows κ) i []) (at c)
+    born-value : (c i : ℕ) → c < length cells → i < n → value m a (born c i) ≡ weighed (getD (weightRows κ) i []) (at c)
     unfolding child fineVertex cornerCoordinate in-cells
     born-value c i h l =
         let x = in-cells c h in
         let w = below-whole κ i l in
-        child-total κ (λ (u : ℕ). biased xs (3 * u + a)) (at c) (parts t) (cell c) (λ (j : ℕ). fineVertex (parts t) (cell c) (smallest κ i j)) i w
+        child-total κ (λ (u : ℕ). biased (m .vertices) (3 * u + a)) (at c) (parts t) (cell c) (λ (j : ℕ). fineVertex (parts t) (cell c) (smallest κ i j)) i w
         (λ j k. at-index (keyAt (cell c) (smallest κ i j)) (parts t) (part-known t s x (smallest κ i j) (smallest-part κ i w j k)))
-        (λ u k. ap (λ (v : ℕ). biased xs (3 * v + a)) (corner-at c u h k) ∙ ap (λ (b : Bool). cond b (biased xs (3 * getD (table m κ) (n * c + u) 0 + a)) 0) (sym (lt-ltb u n k)))
+        (λ u k. ap (λ (v : ℕ). biased (m .vertices) (3 * v + a)) (corner-at c u h k) ∙ ap (λ (b : Bool). cond b (biased (m .vertices) (3 * getD (table m κ) (n * c + u) 0 + a)) 0) (sym (lt-ltb u n k)))
 
-    child-is : (d c i : ℕ) → c < length cells → i < n → (z : Tally) → childStep n (concat fine) (n * n * c + n * i) d (weighed (getD (weightRows κ) i []) (at c)) f z ≡ visit value f d (born c i) z
+    child-is : (d c i : ℕ) → c < length cells → i < n → (z : Tally) → childStep n (concat fine) (n * n * c + n * i) d (weighed (getD (weightRows κ) i []) (at c)) f z ≡ visit (value m a) f d (born c i) z
     unfolding childStep visit
     child-is d c i h l z =
-        let v = value (born c i) in
+        let v = value m a (born c i) in
         let base = n * n * c + n * i in
         ap (λ (s : ℕ). repeat n (λ (j : ℕ). cornerStep d s (getD (concat fine) (base + j) 0)) f z) (sym (born-value c i h l))
         ∙ repeat-same n (λ (j : ℕ). cornerStep d v (getD (concat fine) (base + j) 0)) (λ (j : ℕ). cornerStep d v (getD (born c i) j 0)) f (λ j k z. ap (λ (g : ℕ). cornerStep d v g f z) (fine-at c i j h l k)) z
@@ -158,20 +155,20 @@ module _ (m : Mesh) (s : Sound (topology m)) (κ : Kind) where
         ∙ fold-places (cornerStep d v) (born c i) 0 f z
         ∙ once-counted d v f (born c i) (born-once c i h l) z
 
-    cell-is : (d c : ℕ) → c < length cells → (z : Tally) → cellStep n (weightRows κ) (at c) (concat fine) (n * n * c) d f z ≡ passed value f d (children (parts t) κ (cell c)) z
+    cell-is : (d c : ℕ) → c < length cells → (z : Tally) → cellStep n (weightRows κ) (at c) (concat fine) (n * n * c) d f z ≡ passed (value m a) f d (children (parts t) κ (cell c)) z
     unfolding cellStep
     cell-is d c h z =
-        repeat-same n (λ (i : ℕ). childStep n (concat fine) (n * n * c + n * i) d (weighed (getD (weightRows κ) i []) (at c))) (λ (i f : ℕ). visit value f d (getD (children (parts t) κ (cell c)) i [])) f
-        (λ i l z. child-is d c i h l z ∙ ap (λ (b : List ℕ). visit value f d b z) (sym (children-at (cell c) i l))) z
-        ∙ ap (λ (k : ℕ). repeat k (λ (i f : ℕ). visit value f d (getD (children (parts t) κ (cell c)) i [])) f z) (sym (length-born (cell c)))
-        ∙ fold-places (λ (b : List ℕ) (f : ℕ). visit value f d b) (children (parts t) κ (cell c)) [] f z
+        repeat-same n (λ (i : ℕ). childStep n (concat fine) (n * n * c + n * i) d (weighed (getD (weightRows κ) i []) (at c))) (λ (i f : ℕ). visit (value m a) f d (getD (children (parts t) κ (cell c)) i [])) f
+        (λ i l z. child-is d c i h l z ∙ ap (λ (b : List ℕ). visit (value m a) f d b z) (sym (children-at (cell c) i l))) z
+        ∙ ap (λ (k : ℕ). repeat k (λ (i f : ℕ). visit (value m a) f d (getD (children (parts t) κ (cell c)) i [])) f z) (sym (length-born (cell c)))
+        ∙ fold-places (λ (b : List ℕ) (f : ℕ). visit (value m a) f d b) (children (parts t) κ (cell c)) [] f z
 
     -- the pass over the table is the pass over the fine cells of its kind
-    pub table-is : (d : ℕ) (z : Tally) → tableStep (length (table m κ) / n) n (weightRows κ) (table m κ) xs (concat fine) d a f z ≡ passed value f d fine z
+    pub table-is : (d : ℕ) (z : Tally) → tableStep n (weightRows κ) (table m κ) (m .vertices) (concat fine) d a f z ≡ passed (value m a) f d fine z
     unfolding tableStep
     table-is d z =
         ap (λ (k : ℕ). repeat k (λ (c : ℕ). cellStep n (weightRows κ) (at c) (concat fine) (n * n * c) d) f z) (sym count-cells)
-        ∙ repeat-same (length cells) (λ (c : ℕ). cellStep n (weightRows κ) (at c) (concat fine) (n * n * c) d) (λ (c f : ℕ). passed value f d (children (parts t) κ (cell c))) f (λ c h z. cell-is d c h z) z
-        ∙ fold-places (λ (c : List ℕ) (f : ℕ). passed value f d (children (parts t) κ c)) cells [] f z
-        ∙ sym (fold-concatMap (visit value f d) (children (parts t) κ) cells z)
-        ∙ ap (λ (cs : List (List ℕ)). passed value f d cs z) (sym (cells-split t κ))
+        ∙ repeat-same (length cells) (λ (c : ℕ). cellStep n (weightRows κ) (at c) (concat fine) (n * n * c) d) (λ (c f : ℕ). passed (value m a) f d (children (parts t) κ (cell c))) f (λ c h z. cell-is d c h z) z
+        ∙ fold-places (λ (c : List ℕ) (f : ℕ). passed (value m a) f d (children (parts t) κ c)) cells [] f z
+        ∙ sym (fold-concatMap (visit (value m a) f d) (children (parts t) κ) cells z)
+        ∙ ap (λ (cs : List (List ℕ)). passed (value m a) f d cs z) (sym (cells-split t κ))

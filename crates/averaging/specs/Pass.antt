@@ -34,10 +34,17 @@ childStep n fine at d s = repeat n (λ (j : ℕ). cornerStep d s (getD fine (at 
 unfoldable pub cellStep : ℕ → List (List ℕ) → (ℕ → ℕ) → List ℕ → ℕ → ℕ → ℕ → Tally → Tally
 cellStep n weights e fine base d = repeat n (λ (i : ℕ). childStep n fine (base + n * i) d (weighed (getD weights i []) e))
 
--- the first k cells of a table, on axis a
-unfoldable pub tableStep : ℕ → ℕ → List (List ℕ) → List ℕ → List ℤ → List ℕ → ℕ → ℕ → ℕ → Tally → Tally
-tableStep k n weights corners xs fine d a =
-    repeat k (λ (c : ℕ). cellStep n weights (cornerCoordinate n corners (n * c) xs a) fine (n * n * c) d)
+-- how many cells of n corners stand in a table, and how many corners their children have
+abbrev pub cellCount : ℕ → List ℕ → ℕ
+cellCount n corners = length corners / n
+
+abbrev pub cornerCount : ℕ → List ℕ → ℕ
+cornerCount n corners = n * n * cellCount n corners
+
+-- the cells of a table, on axis a
+unfoldable pub tableStep : ℕ → List (List ℕ) → List ℕ → List ℤ → List ℕ → ℕ → ℕ → ℕ → Tally → Tally
+tableStep n weights corners xs fine d a =
+    repeat (cellCount n corners) (λ (c : ℕ). cellStep n weights (cornerCoordinate n corners (n * c) xs a) fine (n * n * c) d)
 
 -- ---- what the pass needs of its tables
 

@@ -5,7 +5,7 @@ ghost use Prim.Native.Nat.{ℕ, _+_, _*_, _≤_, _<_, _^_};
 ghost use lib.ListN.{length, getD};
 ghost use lib.Dec.{eqb};
 ghost use Rattle.averaging.specs.Tally.{Tally, tallyAt, nothing, cornerStep, Changed, Room, Tallied};
-ghost use Rattle.averaging.specs.Pass.{gatheredAt, childStep, cellStep, tableStep, Coarse, Fine};
+ghost use Rattle.averaging.specs.Pass.{gatheredAt, childStep, cellStep, tableStep, cellCount, cornerCount, Coarse, Fine};
 use crate::coordinates::child_sums;
 use crate::coordinates::gather;
 use crate::coordinates::vertex_at;
@@ -102,10 +102,9 @@ fn count_cell(
     }
 }
 
-// The pass over one table: the children of k cells of n corners count, with the dimension d.
+// The pass over one table of cells of n corners: their children count, with the dimension d.
 pub fn count_table(
     corners: &[u32],
-    k: usize,
     n: usize,
     weights: &[[u8; 8]],
     xs: &[i32],
@@ -114,11 +113,12 @@ pub fn count_table(
     words: &mut [u32],
     longs: &mut [u64],
 )
-    requires { ⌜ (n ≤ length (now weights)) × Coarse n k (now corners) (now xs) × Fine 0 (n * n * k) (n * n * k) (now fine) (now words) (now longs) ⌝ }
-    ensures { λ _. ⌜ Tallied (n * n * k) (tableStep k n (now (weights .entry)) (now (corners .entry)) (now (xs .entry)) (now (fine .entry)) d) (now (words .entry)) (now (longs .entry)) (now (words .exit)) (now (longs .exit)) ⌝ }
+    requires { ⌜ (0 < n) × (n ≤ length (now weights)) × Coarse n (cellCount n (now corners)) (now corners) (now xs) × Fine 0 (cornerCount n (now corners)) (cornerCount n (now corners)) (now fine) (now words) (now longs) ⌝ }
+    ensures { λ _. ⌜ Tallied (cornerCount n (now (corners .entry))) (tableStep n (now (weights .entry)) (now (corners .entry)) (now (xs .entry)) (now (fine .entry)) d) (now (words .entry)) (now (longs .entry)) (now (words .exit)) (now (longs .exit)) ⌝ }
 {
+    let count = corners.len() / n;
     let mut c = 0;
-    while c < k {
+    while c < count {
         let gathered = gather(corners, n, c, xs);
         count_cell(&gathered, n, weights, fine, n * n * c, d, words, longs);
         c += 1;

@@ -3,21 +3,22 @@
 use mathlib.Core.List.{List}
 use Prim.Native.Nat.{ℕ, _+_, _*_, _-_, _≤_, _<_}
 use native.Mathlib.Omega.{arith}
-use native.Mathlib.Nat.{mul-le-mul-left}
+use native.Mathlib.Nat.{mul-le-mul-left, div-le-self}
 use borrow.Author.Needs.{needs}
+use lib.ListN.{length}
 use lib.IntN.{ℤ}
 use Rattle.averaging.specs.Tally.{repeat, Tallied}
-use Rattle.averaging.specs.Pass.{gatheredAt, cornerCoordinate, cellStep, tableStep, Coarse, Fine}
+use Rattle.averaging.specs.Pass.{gatheredAt, cornerCoordinate, cellStep, tableStep, cellCount, Coarse, Fine}
 use Rattle.averaging.proofs.Steps.{tallied-start, tallied-again, tallied-by, tallied-end, cell-same, fine-part, fine-after}
 use Rattle.averaging.proofs.tallies.count_table.Statement.{statement}
 use Rattle.averaging.proofs.tallies.count_table.Tie as tie
 
 abbrev Inv-loop : tie.InvT-loop
-Inv-loop corners k n weights xs fine d words₀ longs₀ c₀ words longs c =
-    (c ≤ k) × Tallied (n * n * c) (λ (a : ℕ). repeat c (λ (c : ℕ). cellStep n weights (cornerCoordinate n corners (n * c) xs a) fine (n * n * c) d)) words₀ longs₀ words longs
+Inv-loop corners n weights xs fine d words₀ longs₀ k c₀ words longs c =
+    (c ≤ cellCount n corners) × Tallied (n * n * c) (λ (a : ℕ). repeat c (λ (c : ℕ). cellStep n weights (cornerCoordinate n corners (n * c) xs a) fine (n * n * c) d)) words₀ longs₀ words longs
 
 abbrev μ-loop : tie.MeasureT-loop
-μ-loop corners k n weights xs fine d words₀ longs₀ c₀ words longs c = k - c
+μ-loop corners n weights xs fine d words₀ longs₀ k c₀ words longs c = cellCount n corners - c
 
 -- the corners of cell c, and the places of its children, are among those of all k
 less : {n k c : ℕ} {corners : List ℕ} {xs : List ℤ} → c < k → Coarse n k corners xs → Coarse n (c + 1) corners xs
@@ -34,10 +35,10 @@ count-cell-requires c κs =
     let a = s .args in
     let l = c .before .before .before .before .before .loop in
     let n = a .n * a .n in
-    let fits = part (a .n) (a .k) (l .c) (c .before .before .before .before .loop-test .taken) in
-    let left : Fine 0 (n * a .k) n (a .fine .now) (l .words) (l .longs) =
-    fine-after (n * l .c) (l .inv .1) (fine-part (omega arith) (omega arith) (omega arith) (s .pre .2)) in
-    ((s .pre .1 .few, s .pre .0, fine-part (omega arith) (omega arith) (omega arith) left), c .before .before .before .gather .ensures .1)
+    let fits = part (a .n) (cellCount (a .n) (a .corners .now)) (l .c) (c .before .before .before .before .loop-test .taken) in
+    let left : Fine 0 (n * cellCount (a .n) (a .corners .now)) n (a .fine .now) (l .words) (l .longs) =
+    fine-after (n * l .c) (l .inv .1) (fine-part (omega arith) (omega arith) (omega arith) (s .pre .3)) in
+    ((s .pre .2 .few, s .pre .1, fine-part (omega arith) (omega arith) (omega arith) left), c .before .before .before .gather .ensures .1)
 
 loop-again : tie.Need-loop-again Inv-loop μ-loop
 loop-again c =
@@ -64,12 +65,13 @@ count-table-spec =
     (tie.spec
     Inv-loop
     μ-loop
-    (λ c. (omega arith, tallied-start _ _ _ _))
-    (λ c κs. less (c .loop-test .taken) (c .before .before .before .before .before .before .pre .1))
-    (λ c. let s = c .before .before .before .before .before .before .before .before in omega (arith, s .pre .2 .whole, part (s .args .n) (s .args .k) (c .before .before .before .loop .c) (c .before .before .loop-test .taken)))
-    (λ c. let s = c .before .before .before .before .before .before .before .before in omega (arith, s .pre .2 .whole, part (s .args .n) (s .args .k) (c .before .before .before .loop .c) (c .before .before .loop-test .taken)))
-    count-cell-requires
     (λ c. search needs)
+    (λ c. (omega arith, tallied-start _ _ _ _))
+    (λ c κs. less (c .loop-test .taken) (c .before .before .before .before .before .before .pre .2))
+    (λ c. let s = c .before .before .before .before .before .before .before .before in omega (arith, s .pre .3 .whole, part (s .args .n) (cellCount (s .args .n) (s .args .corners .now)) (c .before .before .before .loop .c) (c .before .before .loop-test .taken)))
+    (λ c. let s = c .before .before .before .before .before .before .before .before in omega (arith, s .pre .3 .whole, part (s .args .n) (cellCount (s .args .n) (s .args .corners .now)) (c .before .before .before .loop .c) (c .before .before .loop-test .taken)))
+    count-cell-requires
+    (λ c. let a = c .before .before .before .before .before .before .before .before .before .before .before .before .before .before .before .args in omega (arith, div-le-self (length (a .corners .now)) (a .n)))
     (λ c. search needs)
     loop-again
     (λ c. c .before .loop .inv .1 .changed .words-kept)
