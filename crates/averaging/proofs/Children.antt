@@ -89,7 +89,7 @@ module _ (m : Mesh) (s : Sound (topology m)) (κ : Kind) where
   pub count-cells : length cells ≡ length (table m κ) / n
   count-cells = ap length (cells-cut m κ) ∙ length-cut n (table m κ)
 
-  corner-at : (c u : ℕ) → c < length cells → u < n → getD (cell c) u 0 ≡ getD (table m κ) (n * c + u) 0
+  pub corner-at : (c u : ℕ) → c < length cells → u < n → getD (cell c) u 0 ≡ getD (table m κ) (n * c + u) 0
   corner-at c u h l =
       ap (λ (cs : List (List ℕ)). getD (getD cs c []) u 0) (cells-cut m κ) ∙ cut-at n c u (table m κ) [] 0 (omega (arith, count-cells)) l
 

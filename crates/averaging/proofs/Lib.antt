@@ -15,3 +15,7 @@ pub mod Weights
 pub mod Passed
 -- Children: the pass over a table is that over its children.
 pub mod Children
+-- Tables: a ready mesh's tables are such as the pass takes.
+pub mod Tables
+-- Round: the tallies that the four passes leave, divided, are the coordinates after the round.
+pub mod Round
