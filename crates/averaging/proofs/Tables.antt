@@ -6,7 +6,7 @@ use native.Mathlib.Omega.{arith}
 use native.Mathlib.Nat.{mul-div-le, mod-lt, div-add-mod, div-lt-iff-lt-mul, mul-le-mul-left}
 use lib.ListN.{length, getD}
 use Rattle.rules.specs.Lists.{concat}
-use Rattle.rules.specs.Mesh.{Mesh, Kind, dimension, corners, topology, cellsOf}
+use Rattle.rules.specs.Mesh.{Mesh, Kind, hex, quad, segment, point, dimension, corners, topology, cellsOf}
 use Rattle.rules.specs.Split.{parts, splitBy, split}
 use Rattle.lists.specs.Membership.{In}
 use Rattle.lists.proofs.Membership.{getD-in, in-getD, in-concat}
@@ -22,6 +22,12 @@ use Rattle.averaging.proofs.Steps.{tallied-by}
 use Rattle.averaging.proofs.Weights.{weightRows, corners-most}
 use Rattle.averaging.proofs.Passed.{passed}
 use Rattle.averaging.proofs.Children.{corners-some, value, count-cells, corner-at, table-is}
+
+-- between the passes: the working numbers are as many as before, and there is room for j more cells at each fine vertex
+pub record Going (words longs count j : ℕ) (w l : List ℕ) : Type 0 where
+  pub words-kept : length w ≡ words
+  pub longs-kept : length l ≡ longs
+  pub room : (a f : ℕ) → a < 3 → f < count → Room j (tallyAt w l a f)
 
 module _ {m fine : Mesh} {count words longs out : ℕ} (r : Ready m fine count words longs out) where
   -- the corners of the coarse cells
@@ -45,50 +51,64 @@ module _ {m fine : Mesh} {count words longs out : ℕ} (r : Ready m fine count w
       }
 
   -- how many corners the fine cells have
-  load : (κ : Kind) → length (table fine κ) ≡ cornerCount (corners κ) (table m κ)
-  load κ =
+  abbrev pub load : Kind → ℕ
+  load κ = cornerCount (corners κ) (table m κ)
+
+  load-is : (κ : Kind) → length (table fine κ) ≡ load κ
+  load-is κ =
       let n = corners κ in
       let cells = cellsOf (split (topology m)) κ in
       let size : length (table fine κ) ≡ n * length cells = ap length (r .cells κ) ∙ length-concat n cells (split-sound (topology m) (r .sound) .sized κ) in
       let count : length cells ≡ n * cellCount n (table m κ) = length-cells (topology m) κ ∙ ap (λ (x : ℕ). n * x) (count-cells m (r .sound) κ) in
       size ∙ ap (λ (x : ℕ). n * x) count ∙ omega arith
 
-  pub light : (κ : Kind) → cornerCount (corners κ) (table m κ) ≤ corners κ * 250_000
+  light : (κ : Kind) → load κ ≤ corners κ * 250_000
   light κ =
       let n = corners κ in
       let cells = cellsOf (split (topology m)) κ in
-      omega (arith, load κ, ap length (r .cells κ), length-concat n cells (split-sound (topology m) (r .sound) .sized κ), mul-le-mul-left n (r .few κ))
+      omega (arith, load-is κ, ap length (r .cells κ), length-concat n cells (split-sound (topology m) (r .sound) .sized κ), mul-le-mul-left n (r .few κ))
+
+  -- there is room for all
+  pub light-all : load point + (load segment + (load quad + (load hex + 0))) ≤ 2 ^ 22
+  light-all = omega (arith, light point, light segment, light quad, light hex)
 
   -- a corner of a fine cell is a fine vertex
-  named : (κ : Kind) (p : ℕ) → p < cornerCount (corners κ) (table m κ) → getD (table fine κ) p 0 < count
+  named : (κ : Kind) (p : ℕ) → p < load κ → getD (table fine κ) p 0 < count
   unfolding split splitBy
   named κ p h =
       let cells = cellsOf (split (topology m)) κ in
       let f = getD (table fine κ) p 0 in
       let s = split-sound (topology m) (r .sound) in
-      let a = in-concat cells f (subst (λ (l : List ℕ). In f l) (r .cells κ) (getD-in (table fine κ) p 0 (rw (load κ) h))) in
+      let a = in-concat cells f (subst (λ (l : List ℕ). In f l) (r .cells κ) (getD-in (table fine κ) p 0 (rw (load-is κ) h))) in
       let j = in-getD (a .0) f 0 (a .2) in
       let v = s .known κ (a .0) (a .1) (j .0) (below-whole κ (j .0) (omega (arith, j .1, s .sized κ (a .0) (a .1)))) in
       omega (arith, v, j .2, r .counted)
 
-  -- ---- room for j more cells at each fine vertex
+  -- ---- from pass to pass
 
-  abbrev pub Roomy : ℕ → List ℕ → List ℕ → Type 0
-  Roomy j w l = (a f : ℕ) → a < 3 → f < count → Room j (tallyAt w l a f)
+  pub start : (j : ℕ) (w l : List ℕ) → j ≤ 2 ^ 22 → (length w ≡ words) × (length l ≡ longs) → ((a f : ℕ) → a < 3 → f < count → tallyAt w l a f ≡ nothing) → Going words longs count j w l
+  start j w l h k e = record {
+    words-kept = k .0;
+    longs-kept = k .1;
+    room = λ a f b i. subst (Room j) (sym (e a f b i)) (record { few = omega arith; small = omega arith });
+  }
 
-  pub roomy-start : (j : ℕ) (w l : List ℕ) → j ≤ 2 ^ 22 → ((a f : ℕ) → a < 3 → f < count → tallyAt w l a f ≡ nothing) → Roomy j w l
-  roomy-start j w l h e a f k i = subst (Room j) (sym (e a f k i)) (record { few = omega arith; small = omega arith })
+  pub onward : (k : ℕ) {j : ℕ} {w l w' l' : List ℕ} {step : ℕ → ℕ → Tally → Tally} → Tallied k step w l w' l' → Going words longs count (k + j) w l → Going words longs count j w' l'
+  onward k {j} s g = record {
+    words-kept = s .changed .words-kept ∙ g .words-kept;
+    longs-kept = s .changed .longs-kept ∙ g .longs-kept;
+    room = λ a f h i. subst (Room j) (sym (s .changed .each a f h)) (s .within a f h j _ (g .room a f h i));
+  }
 
-  pub roomy-after : (k : ℕ) {j : ℕ} {w l w' l' : List ℕ} {step : ℕ → ℕ → Tally → Tally} → Tallied k step w l w' l' → Roomy (k + j) w l → Roomy j w' l'
-  roomy-after k {j} s x a f h i = subst (Room j) (sym (s .changed .each a f h)) (s .within a f h j _ (x a f h i))
-
-  pub fine-cells : (κ : Kind) (w l : List ℕ) → words ≤ length w → longs ≤ length l → Roomy (cornerCount (corners κ) (table m κ)) w l
-      → Fine 0 (cornerCount (corners κ) (table m κ)) (cornerCount (corners κ) (table m κ)) (table fine κ) w l
-  fine-cells κ w l hw hl x = record {
-    whole = omega (arith, load κ);
-    ranked = λ p g h. let v = named κ p (omega arith) in omega (arith, r .words-fit);
-    summed = λ p g h. let v = named κ p (omega arith) in omega (arith, r .longs-fit);
-    room = λ p a g h k. x a (getD (table fine κ) p 0) k (named κ p (omega arith));
+  -- the fine cells of a kind
+  pub fine-cells : (κ : Kind) (j : ℕ) {w l : List ℕ} → Going words longs count (load κ + j) w l
+      → Fine 0 (load κ) (load κ) (table fine κ) w l
+  fine-cells κ j g = record {
+    whole = omega (arith, load-is κ);
+    ranked = λ p i h. let v = named κ p (omega arith) in omega (arith, r .words-fit, g .words-kept);
+    summed = λ p i h. let v = named κ p (omega arith) in omega (arith, r .longs-fit, g .longs-kept);
+    room = λ p a i h k.
+        let x = g .room a (getD (table fine κ) p 0) k (named κ p (omega arith)) in record { few = omega (arith, x .few); small = x .small };
   }
 
   -- ---- the pass over the table of a kind is that over its fine cells

@@ -1,10 +1,78 @@
-// The averaging of one round (document 01, 'Average' and 'Rounding').
+// The averaging of one round (document 01, 'Average' and 'Rounding'). It rests on the rules, on sound meshes and on the laws of weighted means,
+// and promises that the output's used part holds the coordinates after the round, and that nothing else of it changes.
 // One pass over the coarse cells in rising dimension: points, segments, quads, hexes. Each child of a cell counts for its corners, with the sum
 // of their split positions; so the first kind that names a fine vertex gives it its rank. Then one division a fine vertex and axis.
 ghost use mathlib.Core.Path.{_≡_};
-ghost use Prim.Native.Nat.{ℕ, _+_, _*_, _≤_, _<_, _^_};
-ghost use lib.ListN.{length, getD};
+ghost use lib.ListN.{length};
+ghost use Rattle.rules.specs.Lists.{overwritten};
+ghost use Rattle.rules.specs.Mesh.{mesh, topology};
+ghost use Rattle.rules.specs.Averaging.{means, averaged};
+ghost use Rattle.averaging.specs.Ready.{Ready};
 
 mod coordinates;
 mod means;
 mod tallies;
+
+// The split positions of all corners of child i of a cell, in eighths and summed, count corner u of the cell as often as row i says in column u.
+// A cell of fewer than 8 corners leaves the rest of a row 0.
+const HEX_WEIGHTS: [[u8; 8]; 8] = [
+    [27, 9, 3, 9, 9, 3, 1, 3],
+    [9, 27, 9, 3, 3, 9, 3, 1],
+    [3, 9, 27, 9, 1, 3, 9, 3],
+    [9, 3, 9, 27, 3, 1, 3, 9],
+    [9, 3, 1, 3, 27, 9, 3, 9],
+    [3, 9, 3, 1, 9, 27, 9, 3],
+    [1, 3, 9, 3, 3, 9, 27, 9],
+    [3, 1, 3, 9, 9, 3, 9, 27],
+];
+
+const QUAD_WEIGHTS: [[u8; 8]; 4] = [
+    [18, 6, 2, 6, 0, 0, 0, 0],
+    [6, 18, 6, 2, 0, 0, 0, 0],
+    [2, 6, 18, 6, 0, 0, 0, 0],
+    [6, 2, 6, 18, 0, 0, 0, 0],
+];
+
+const SEGMENT_WEIGHTS: [[u8; 8]; 2] = [[12, 4, 0, 0, 0, 0, 0, 0], [4, 12, 0, 0, 0, 0, 0, 0]];
+
+const POINT_WEIGHTS: [[u8; 8]; 1] = [[8, 0, 0, 0, 0, 0, 0, 0]];
+
+// xs and the next four tables are a mesh, the four after them its fine cells, and `count` is how many fine vertices it has. Working numbers:
+// two words and three longs for each fine vertex, whose contents at the start do not matter. The coordinates after the round go to `out`.
+pub fn average(
+    xs: &[i32],
+    hexes: &[u32],
+    quads: &[u32],
+    segments: &[u32],
+    points: &[u32],
+    fine_hexes: &[u32],
+    fine_quads: &[u32],
+    fine_segments: &[u32],
+    fine_points: &[u32],
+    count: usize,
+    words: &mut [u32],
+    longs: &mut [u64],
+    out: &mut [i32],
+)
+    requires { ⌜ Ready (mesh (now xs) (now hexes) (now quads) (now segments) (now points)) (mesh (now xs) (now «fine_hexes») (now «fine_quads») (now «fine_segments») (now «fine_points»)) count (length (now words)) (length (now longs)) (length (now out)) ⌝ }
+    ensures { λ _. ⌜ (length (now (words .exit)) ≡ length (now (words .entry))) × (length (now (longs .exit)) ≡ length (now (longs .entry))) ⌝ }
+    ensures { λ _.
+        let m = mesh (now (xs .entry)) (now (hexes .entry)) (now (quads .entry)) (now (segments .entry)) (now (points .entry)) in
+        ⌜ now (out .exit) ≡ overwritten (now (out .entry)) (averaged (means (topology m)) (m .vertices)) ⌝ }
+{
+    tallies::reset(count, words, longs);
+    tallies::count_table(points, 1, &POINT_WEIGHTS, xs, fine_points, 0, words, longs);
+    tallies::count_table(
+        segments,
+        2,
+        &SEGMENT_WEIGHTS,
+        xs,
+        fine_segments,
+        1,
+        words,
+        longs,
+    );
+    tallies::count_table(quads, 4, &QUAD_WEIGHTS, xs, fine_quads, 2, words, longs);
+    tallies::count_table(hexes, 8, &HEX_WEIGHTS, xs, fine_hexes, 3, words, longs);
+    means::finish(count, words, longs, out);
+}
