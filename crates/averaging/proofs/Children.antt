@@ -32,7 +32,8 @@ use Rattle.averaging.specs.Pass.{biased, cornerCoordinate, weighed, chil
 use Rattle.averaging.specs.Ready.{table}
 use Rattle.averaging.proofs.Steps.{repeat-same}
 use Rattle.averaging.proofs.Folds.{foldOver, fold-concatMap, fold-places, concat-at}
-use Rattle.averaging.proofs.Weights.{weightRows, child-total}
+use Rattle.averaging.specs.Weights.{weightRows}
+use Rattle.averaging.proofs.ChildSums.{child-total}
 use Rattle.averaging.proofs.Passed.{visit, passed}
 
 -- ---- a cell that names no corner twice counts once for each corner

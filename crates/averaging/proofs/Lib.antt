@@ -9,8 +9,8 @@ pub mod Stores
 pub mod Steps
 -- Folds: steps over the elements of a list.
 pub mod Folds
--- Weights: the weights of a cell's corners in its children, by the rules.
-pub mod Weights
+-- ChildSums: the sum over a child's corners is that by the weights.
+pub mod ChildSums
 -- Passed: a pass over the cells in rising dimension leaves the rank, the valence and the sum that the rules count.
 pub mod Passed
 -- Children: the pass over a table is that over its children.

@@ -19,7 +19,8 @@ use Rattle.averaging.specs.Tally.{Tally, tallyAt, nothing, Room, Tallied
 use Rattle.averaging.specs.Pass.{tableStep, cellCount, cornerCount, Coarse, Fine}
 use Rattle.averaging.specs.Ready.{table, Ready}
 use Rattle.averaging.proofs.Steps.{tallied-by}
-use Rattle.averaging.proofs.Weights.{weightRows, corners-most}
+use Rattle.averaging.specs.Weights.{weightRows}
+use Rattle.averaging.proofs.ChildSums.{length-rows, corners-most}
 use Rattle.averaging.proofs.Passed.{passed}
 use Rattle.averaging.proofs.Children.{corners-some, value, count-cells, corner-at, table-is}
 
@@ -31,7 +32,7 @@ pub record Going (words longs count j : ℕ) (w l : List ℕ) : Type 0 where
 
 module _ {m fine : Mesh} {count words longs out : ℕ} (r : Ready m fine count words longs out) where
   -- the corners of the coarse cells
-  pub coarse : (κ : Kind) → Coarse (corners κ) (cellCount (corners κ) (table m κ)) (table m κ) (m .vertices)
+  coarse : (κ : Kind) → Coarse (corners κ) (cellCount (corners κ) (table m κ)) (table m κ) (m .vertices)
   unfolding topology
   coarse κ =
       let n = corners κ in
@@ -101,7 +102,7 @@ module _ {m fine : Mesh} {count words longs out : ℕ} (r : Ready m fine count w
   }
 
   -- the fine cells of a kind
-  pub fine-cells : (κ : Kind) (j : ℕ) {w l : List ℕ} → Going words longs count (load κ + j) w l
+  fine-cells : (κ : Kind) (j : ℕ) {w l : List ℕ} → Going words longs count (load κ + j) w l
       → Fine 0 (load κ) (load κ) (table fine κ) w l
   fine-cells κ j g = record {
     whole = omega (arith, load-is κ);
@@ -110,6 +111,11 @@ module _ {m fine : Mesh} {count words longs out : ℕ} (r : Ready m fine count w
     room = λ p a i h k.
         let x = g .room a (getD (table fine κ) p 0) k (named κ p (omega arith)) in record { few = omega (arith, x .few); small = x .small };
   }
+
+  -- what the pass over the table of a kind asks
+  pub takes : (κ : Kind) (j : ℕ) {weights : List (List ℕ)} {w l : List ℕ} → weights ≡ weightRows κ → Going words longs count (load κ + j) w l
+      → (0 < corners κ) × (corners κ ≤ length weights) × Coarse (corners κ) (cellCount (corners κ) (table m κ)) (table m κ) (m .vertices) × Fine 0 (load κ) (load κ) (table fine κ) w l
+  takes κ j e g = (corners-some κ, omega (arith, ap length e, length-rows κ), coarse κ, fine-cells κ j g)
 
   -- ---- the pass over the table of a kind is that over its fine cells
 

@@ -12,30 +12,7 @@ ghost use Rattle.averaging.specs.Ready.{Ready};
 mod coordinates;
 mod means;
 mod tallies;
-
-// The split positions of all corners of child i of a cell, in eighths and summed, count corner u of the cell as often as row i says in column u.
-// A cell of fewer than 8 corners leaves the rest of a row 0.
-const HEX_WEIGHTS: [[u8; 8]; 8] = [
-    [27, 9, 3, 9, 9, 3, 1, 3],
-    [9, 27, 9, 3, 3, 9, 3, 1],
-    [3, 9, 27, 9, 1, 3, 9, 3],
-    [9, 3, 9, 27, 3, 1, 3, 9],
-    [9, 3, 1, 3, 27, 9, 3, 9],
-    [3, 9, 3, 1, 9, 27, 9, 3],
-    [1, 3, 9, 3, 3, 9, 27, 9],
-    [3, 1, 3, 9, 9, 3, 9, 27],
-];
-
-const QUAD_WEIGHTS: [[u8; 8]; 4] = [
-    [18, 6, 2, 6, 0, 0, 0, 0],
-    [6, 18, 6, 2, 0, 0, 0, 0],
-    [2, 6, 18, 6, 0, 0, 0, 0],
-    [6, 2, 6, 18, 0, 0, 0, 0],
-];
-
-const SEGMENT_WEIGHTS: [[u8; 8]; 2] = [[12, 4, 0, 0, 0, 0, 0, 0], [4, 12, 0, 0, 0, 0, 0, 0]];
-
-const POINT_WEIGHTS: [[u8; 8]; 1] = [[8, 0, 0, 0, 0, 0, 0, 0]];
+mod weights;
 
 // xs and the next four tables are a mesh, the four after them its fine cells, and `count` is how many fine vertices it has. Working numbers:
 // two words and three longs for each fine vertex, whose contents at the start do not matter. The coordinates after the round go to `out`.
@@ -61,18 +38,13 @@ pub fn average(
         ⌜ now (out .exit) ≡ overwritten (now (out .entry)) (averaged (means (topology m)) (m .vertices)) ⌝ }
 {
     tallies::reset(count, words, longs);
-    tallies::count_table(points, 1, &POINT_WEIGHTS, xs, fine_points, 0, words, longs);
-    tallies::count_table(
-        segments,
-        2,
-        &SEGMENT_WEIGHTS,
-        xs,
-        fine_segments,
-        1,
-        words,
-        longs,
-    );
-    tallies::count_table(quads, 4, &QUAD_WEIGHTS, xs, fine_quads, 2, words, longs);
-    tallies::count_table(hexes, 8, &HEX_WEIGHTS, xs, fine_hexes, 3, words, longs);
+    let point = weights::point_weights();
+    tallies::count_table(points, 1, &point, xs, fine_points, 0, words, longs);
+    let segment = weights::segment_weights();
+    tallies::count_table(segments, 2, &segment, xs, fine_segments, 1, words, longs);
+    let quad = weights::quad_weights();
+    tallies::count_table(quads, 4, &quad, xs, fine_quads, 2, words, longs);
+    let hex = weights::hex_weights();
+    tallies::count_table(hexes, 8, &hex, xs, fine_hexes, 3, words, longs);
     means::finish(count, words, longs, out);
 }

@@ -1,5 +1,4 @@
--- The split positions of all corners of a child, in eighths, summed: each corner of the parent has a weight. By the rules it comes from the
--- smallest parts that hold the child's corner. Assumes nothing.
+-- The sum of the split positions of all corners of a child is that by the weights. Assumes nothing.
 use mathlib.Core.Path.{_≡_, refl, sym, ap, ap₂, subst, _∙_}
 use mathlib.Core.Bool.{Bool, true, false, cond}
 use mathlib.Core.Logic.{inl, inr}
@@ -21,24 +20,17 @@ use Rattle.lists.proofs.Each.{each-in, each-concatMap}
 use Rattle.lists.proofs.Keys.{length-key}
 use Rattle.rounding.proofs.Draws.{natTotal, natTotal-append}
 use Rattle.soundness.proofs.CellParts.{placed, smallest-part}
-use Rattle.soundness.proofs.Cells.{whole-below}
+use Rattle.soundness.proofs.Cells.{whole-below, length-whole}
 use Rattle.averaging.specs.Sums.{sumTo}
+use Rattle.averaging.specs.Weights.{childDraws, weightAt, weightRows}
 use Rattle.averaging.specs.Pass.{weighed}
 use Rattle.averaging.proofs.Sums.{sumTo-same, sumTo-plus, sumTo-single, sumTo-none}
 
--- ---- the weights
+-- ---- the weights by row and column
 
--- what child i draws on, by the places of its parent's corners
-unfoldable pub childDraws : Kind → ℕ → List Draw
-childDraws κ i = concatMap (λ (j : ℕ). eighths (smallest κ i j)) (whole κ)
-
--- how many eighths of place u are counted
-unfoldable pub weightAt : List Draw → ℕ → ℕ
-weightAt ts u = natTotal ts (λ (q : ℕ). cond (eqb u q) 1 0)
-
--- a row for each child, and in it a weight for each of 8 places
-unfoldable pub weightRows : Kind → List (List ℕ)
-weightRows κ = map (λ (i : ℕ). map (weightAt (childDraws κ i)) (upFrom 0 8)) (whole κ)
+pub length-rows : (κ : Kind) → length (weightRows κ) ≡ corners κ
+unfolding weightRows
+length-rows κ = length-map (whole κ) (λ (i : ℕ). map (weightAt (childDraws κ i)) (upFrom 0 8)) ∙ length-whole κ
 
 pub weights-at : (κ : Kind) (i u : ℕ) → i < corners κ → u < 8 → getD (getD (weightRows κ) i []) u 0 ≡ weightAt (childDraws κ i) u
 unfolding weightRows whole
@@ -55,19 +47,17 @@ collected n e [] g = sym (sumTo-none n (λ (u : ℕ). 0 * e u) (λ u h. omega ar
 collected n e (t ∷ ts) g =
     let v = t .vertex in
     let w = t .weight in
-    let one : ℕ → ℕ = λ u. w * cond (eqb u v) 1 0 * e u in
+    let one : ℕ → ℕ = λ u. cond (eqb u v) (w * e u) 0 in
     let rest : ℕ → ℕ = λ u. weightAt ts u * e u in
     let single : sumTo n one ≡ w * e v =
-    sumTo-single n v one (g .0) (λ u h d. ap (λ (b : Bool). w * cond b 1 0 * e u) (ne-eqb u v d) ∙ none w (e u)) ∙ ap (λ (b : Bool). w * cond b 1 0 * e v) (eq-eqb v v refl) ∙ all-of w (e v) in
+    sumTo-single n v one (g .0) (λ u h d. ap (λ (b : Bool). cond b (w * e u) 0) (ne-eqb u v d)) ∙ ap (λ (b : Bool). cond b (w * e v) 0) (eq-eqb v v refl) in
     ap₂ _+_ (sym single) (collected n e ts (g .1))
     ∙ sym (sumTo-plus n one rest)
-    ∙ sumTo-same n (λ (u : ℕ). one u + rest u) (λ (u : ℕ). (w * cond (eqb u v) 1 0 + weightAt ts u) * e u) (λ u h. omega arith)
+    ∙ sumTo-same n (λ (u : ℕ). one u + rest u) (λ (u : ℕ). cond (eqb u v) (w + weightAt ts u) (weightAt ts u) * e u) (λ u h. join (eqb u v) w (weightAt ts u) (e u))
   where
-    none : (w x : ℕ) → w * 0 * x ≡ 0
-    none w x = omega arith
-
-    all-of : (w x : ℕ) → w * 1 * x ≡ w * x
-    all-of w x = omega arith
+    join : (b : Bool) (w r x : ℕ) → cond b (w * x) 0 + r * x ≡ cond b (w + r) r * x
+    join true w r x = omega arith
+    join false w r x = omega arith
 
 total-same : (n : ℕ) (e e' : ℕ → ℕ) (ts : List Draw) → Each (λ (t : Draw). t .vertex < n) ts → ((u : ℕ) → u < n → e u ≡ e' u) → natTotal ts e ≡ natTotal ts e'
 total-same n e e' [] g h = refl
