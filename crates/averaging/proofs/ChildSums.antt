@@ -3,14 +3,14 @@ use mathlib.Core.Path.{_≡_, refl, sym, ap, ap₂, subst, _∙_}
 use mathlib.Core.Bool.{Bool, true, false, cond}
 use mathlib.Core.Logic.{inl, inr}
 use mathlib.Core.List.{List, [], _∷_, map}
-use Prim.Native.Nat.{ℕ, zero, suc, _+_, _*_, _/_, _<_, _≤_}
+use Prim.Native.Nat.{ℕ, _+_, _*_, _/_, _<_, _≤_}
 use native.Mathlib.Omega.{arith}
 use native.Mathlib.Nat.{zero-add}
 use lib.ListN.{length, getD, length-map}
 use lib.Dec.{eqb, leb}
 use borrow.Author.Tests.{eq-eqb, ne-eqb}
 use Rattle.rules.specs.Lists.{Each, concatMap, upFrom, Key, insert, keyOf}
-use Rattle.rules.specs.Mesh.{Kind, hex, quad, segment, point, corners, whole, cellParts, smallest}
+use Rattle.rules.specs.Mesh.{Kind, hex, quad, segment, point, corners, whole, smallest}
 use Rattle.rules.specs.Split.{cornersAt, keyAt}
 use Rattle.rules.specs.Means.{Draw}
 use Rattle.rules.specs.Averaging.{eighths, cellDraws}

@@ -1,27 +1,25 @@
 -- The pass over a table of cells, by places, is the pass over the list of the cells' children. Assumes nothing.
 use mathlib.Core.Path.{_≡_, refl, sym, ap, subst, _∙_}
 use mathlib.Core.Bool.{Bool, true, false, cond, _||_}
-use mathlib.Core.Logic.{inl, inr}
 use mathlib.Core.List.{List, [], _∷_, map}
-use Prim.Native.Nat.{ℕ, zero, suc, _+_, _*_, _/_, _<_, _≤_}
+use Prim.Native.Nat.{ℕ, _+_, _*_, _/_, _<_}
 use native.Mathlib.Omega.{arith}
 use native.Mathlib.Nat.{mul-le-mul-left, zero-add}
 use lib.ListN.{length, getD, length-map}
-use lib.IntN.{ℤ}
-use lib.Dec.{eqb, ltb}
+use lib.Dec.{eqb}
 use borrow.Author.Tests.{eqb-true, lt-ltb}
-use Rattle.rules.specs.Lists.{any, concat, concatMap, cut, has}
-use Rattle.rules.specs.Mesh.{Mesh, Kind, hex, quad, segment, point, dimension, corners, whole, smallest, Topology, topology, cellsOf}
+use Rattle.rules.specs.Lists.{any, concat, cut, has}
+use Rattle.rules.specs.Mesh.{Mesh, Kind, hex, quad, segment, point, corners, whole, smallest, Topology, topology, cellsOf}
 use Rattle.rules.specs.Split.{keyAt, parts, fineVertex, child, children, split}
 use Rattle.rules.specs.Averaging.{cellDraws}
 use Rattle.lists.specs.Membership.{In, Once}
 use Rattle.lists.proofs.Membership.{getD-in, in-map, getD-map, getD-run, concatMap-is}
 use Rattle.lists.proofs.Once.{place-once}
-use Rattle.lists.proofs.Tests.{not-has, or-false}
+use Rattle.lists.proofs.Tests.{not-has}
 use Rattle.lists.proofs.Tables.{length-cut, cut-at}
 use Rattle.lists.proofs.Distinct.{at-index}
 use Rattle.rounding.proofs.Draws.{natTotal}
-use Rattle.soundness.specs.Sound.{Sound, corner}
+use Rattle.soundness.specs.Sound.{Sound}
 use Rattle.soundness.proofs.CellParts.{smallest-part}
 use Rattle.soundness.proofs.Cells.{CellOf, childAt, below-whole, length-whole, cells-split, length-child, child-cell}
 use Rattle.soundness.proofs.FineParts.{part-known}

@@ -1,10 +1,10 @@
 -- Steps over the elements of a list, one after another. Assumes nothing.
-use mathlib.Core.Path.{_≡_, refl, sym, ap, subst, _∙_}
+use mathlib.Core.Path.{_≡_, refl, sym, ap, _∙_}
 use mathlib.Core.List.{List, [], _∷_, _++_}
 use Prim.Native.Nat.{ℕ, zero, suc, _+_, _*_, _/_, _<_}
 use native.Mathlib.Omega.{arith}
 use lib.ListN.{length, getD}
-use Rattle.rules.specs.Lists.{concat, concatMap, cut}
+use Rattle.rules.specs.Lists.{concat, concatMap}
 use Rattle.lists.specs.Membership.{In}
 use Rattle.lists.proofs.Tables.{length-cut, cut-concat, cut-at}
 use Rattle.averaging.specs.Tally.{Tally, repeat}

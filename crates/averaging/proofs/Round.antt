@@ -12,9 +12,9 @@ use lib.Dec.{ltb}
 use lib.Signed.{pos-natAbs}
 use lib.IntN.{ℤ, pos, natAbs, _+ℤ_}
 use Rattle.rules.specs.Lists.{overwritten}
-use Rattle.rules.specs.Mesh.{Mesh, hex, quad, segment, point, topology, cellsOf}
+use Rattle.rules.specs.Mesh.{Mesh, hex, quad, segment, point, topology}
 use Rattle.rules.specs.Split.{parts, splitBy, split}
-use Rattle.rules.specs.Means.{Mean, meanOf, noMean, coordinate, rounded}
+use Rattle.rules.specs.Means.{Mean, noMean, coordinate, rounded}
 use Rattle.rules.specs.Averaging.{rank, valence, counted, cellDraws, meanAt, means, axis, averaged}
 use Rattle.lists.proofs.Each.{each-at}
 use Rattle.lists.proofs.Membership.{getD-map}
@@ -22,7 +22,7 @@ use Rattle.integers.specs.Range.{InRange}
 use Rattle.integers.proofs.Linear.{var, nat, _⊕_}
 use Rattle.integers.proofs.Range.{range-parts, not-negative, size}
 use Rattle.rounding.specs.Good.{GoodMean}
-use Rattle.rounding.proofs.Draws.{natTotal, natTotal-le, natTotal-concatMap, rounded-biased, sumOver}
+use Rattle.rounding.proofs.Draws.{natTotal, natTotal-le, natTotal-concatMap, rounded-biased}
 use Rattle.soundness.proofs.Rounds.{length-averaged, length-means}
 use Rattle.soundness.proofs.SplitSound.{split-sound}
 use Rattle.accuracy.proofs.Axes.{axis-at, axis-averaged}
@@ -30,12 +30,12 @@ use Rattle.accuracy.proofs.Counted.{ranked, counted-some}
 use Rattle.accuracy.proofs.Means.{mean-is, means-good}
 use Rattle.accuracy.proofs.Sums.{rank-below, valence-below}
 use Rattle.accuracy.proofs.Range.{all-in-range}
-use Rattle.averaging.specs.Tally.{Tally, tallyAt, nothing, Tallied}
+use Rattle.averaging.specs.Tally.{Tally, tallyAt, Tallied}
 use Rattle.averaging.specs.Pass.{biased, divisorOf, Complete, MeanOf}
 use Rattle.averaging.specs.Ready.{Ready}
 use Rattle.averaging.proofs.Passed.{tallyOf, passed-all}
 use Rattle.averaging.proofs.Children.{value}
-use Rattle.averaging.proofs.Tables.{kindStep}
+use Rattle.averaging.proofs.Tables.{Cleared, cleared, kindStep}
 
 -- ---- a biased coordinate
 
@@ -48,14 +48,14 @@ biased-below z h = let p = range-parts z h in omega (arith, p, size (var z ⊕ n
 module _ {m fine : Mesh} {count words longs out : ℕ} (r : Ready m fine count words longs out) where
   -- ---- the four passes
 
-  pub counted-tally : {w₀ l₀ w₁ l₁ w₂ l₂ w₃ l₃ w₄ l₄ : List ℕ} → ((a f : ℕ) → a < 3 → f < count → tallyAt w₀ l₀ a f ≡ nothing)
+  pub counted-tally : {w l w₀ l₀ w₁ l₁ w₂ l₂ w₃ l₃ w₄ l₄ : List ℕ} → Cleared count w l w₀ l₀
       → {k₁ k₂ k₃ k₄ : ℕ} → Tallied k₁ (kindStep r point) w₀ l₀ w₁ l₁ → Tallied k₂ (kindStep r segment) w₁ l₁ w₂ l₂ → Tallied k₃ (kindStep r quad) w₂ l₂ w₃ l₃ → Tallied k₄ (kindStep r hex) w₃ l₃ w₄ l₄
       → (a f : ℕ) → a < 3 → f < count → tallyAt w₄ l₄ a f ≡ tallyOf (value m a) (counted (split (topology m)) f)
   counted-tally start p s q h a f k i =
       h .changed .each a f k
       ∙ ap (kindStep r hex a f) (q .changed .each a f k
       ∙ ap (kindStep r quad a f) (s .changed .each a f k
-      ∙ ap (kindStep r segment a f) (p .changed .each a f k ∙ ap (kindStep r point a f) (start a f k i))))
+      ∙ ap (kindStep r segment a f) (p .changed .each a f k ∙ ap (kindStep r point a f) (cleared start a f k i))))
       ∙ passed-all (value m a) f (split (topology m))
 
   -- ---- one fine vertex, on one axis

@@ -4,9 +4,8 @@ use mathlib.Core.Bool.{Bool, true, false, cond}
 use mathlib.Core.List.{List, []}
 use Prim.Native.Nat.{ℕ, zero, suc, _+_, _*_, _≤_, _<_, _^_}
 use native.Mathlib.Omega.{arith}
-use native.Mathlib.Nat.{mul-le-mul-right}
 use native.Mathlib.Numerals.{add-one}
-use lib.ListN.{length, getD}
+use lib.ListN.{getD}
 use lib.Dec.{leb, eqb}
 use Rattle.averaging.specs.Tally.{Tally, tallyAt, counting, repeat, cornerStep, Room, Within, Tallied}
 use Rattle.averaging.specs.Pass.{childStep, cellStep, weighed, Fine}

@@ -1,15 +1,15 @@
 -- What the stores of a vertex's numbers make of its tally, and what a cell that counts for it does. Assumes nothing.
-use mathlib.Core.Path.{_≡_, refl, sym, _∙_, ap, subst}
+use mathlib.Core.Path.{_≡_, refl, _∙_, ap}
 use mathlib.Core.Bool.{Bool, true, false, cond}
 use mathlib.Core.List.{List, [], _∷_}
 use Prim.Native.Nat.{ℕ, _+_, _*_, _^_, _≤_, _<_}
 use native.Mathlib.Omega.{arith}
 use lib.ListN.{length, getD, set, length-set}
 use lib.Seq.{getD-set-same, getD-set-other}
-use lib.Dec.{eqb, leb}
+use lib.Dec.{eqb}
 use borrow.Author.Tests.{eqb-true, eqb-false, le-leb, lt-leb}
 use Rattle.averaging.specs.Tally.{Tally, tallyAt, counting, cornerStep, Room}
-use Rattle.averaging.proofs.Triples.{on-axes, triple, triple-at, triple-each, triple-other}
+use Rattle.averaging.proofs.Triples.{on-axes, triple, triple-at, triple-other}
 
 abbrev pub tally : ℕ → ℕ → ℕ → Tally
 tally r k s = record { rank = r; valence = k; sum = s }

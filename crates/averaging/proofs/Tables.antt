@@ -1,13 +1,15 @@
 -- The tables of a mesh that is ready for averaging are such as the pass takes, and there is room for all its cells. Assumes nothing.
-use mathlib.Core.Path.{_≡_, refl, sym, ap, subst, _∙_}
+use mathlib.Core.Path.{_≡_, sym, ap, subst, _∙_}
+use mathlib.Core.Bool.{Bool, cond}
 use mathlib.Core.List.{List, []}
 use Prim.Native.Nat.{ℕ, _+_, _*_, _/_, _%_, _^_, _≤_, _<_}
 use native.Mathlib.Omega.{arith}
 use native.Mathlib.Nat.{mul-div-le, mod-lt, div-add-mod, div-lt-iff-lt-mul, mul-le-mul-left}
+use borrow.Author.Tests.{lt-ltb}
 use lib.ListN.{length, getD}
-use Rattle.rules.specs.Lists.{concat}
+use lib.Dec.{ltb}
 use Rattle.rules.specs.Mesh.{Mesh, Kind, hex, quad, segment, point, dimension, corners, topology, cellsOf}
-use Rattle.rules.specs.Split.{parts, splitBy, split}
+use Rattle.rules.specs.Split.{splitBy, split}
 use Rattle.lists.specs.Membership.{In}
 use Rattle.lists.proofs.Membership.{getD-in, in-getD, in-concat}
 use Rattle.lists.proofs.Tables.{length-concat}
@@ -15,7 +17,7 @@ use Rattle.soundness.proofs.Cells.{below-whole}
 use Rattle.soundness.proofs.SplitSizes.{length-cells}
 use Rattle.soundness.proofs.SplitSound.{split-sound}
 use Rattle.accuracy.proofs.Range.{all-in-range}
-use Rattle.averaging.specs.Tally.{Tally, tallyAt, nothing, Room, Tallied}
+use Rattle.averaging.specs.Tally.{Tally, tallyAt, nothing, Changed, Room, Tallied}
 use Rattle.averaging.specs.Pass.{tableStep, cellCount, cornerCount, Coarse, Fine}
 use Rattle.averaging.specs.Ready.{table, Ready}
 use Rattle.averaging.proofs.Steps.{tallied-by}
@@ -23,6 +25,13 @@ use Rattle.averaging.specs.Weights.{weightRows}
 use Rattle.averaging.proofs.ChildSums.{length-rows, corners-most}
 use Rattle.averaging.proofs.Passed.{passed}
 use Rattle.averaging.proofs.Children.{corners-some, value, count-cells, corner-at, table-is}
+
+-- nothing is counted for the first n vertices
+abbrev pub Cleared : ℕ → List ℕ → List ℕ → List ℕ → List ℕ → Type 0
+Cleared n = Changed (λ (a f : ℕ) (t : Tally). cond (ltb f n) nothing t)
+
+pub cleared : {n : ℕ} {w₀ l₀ w l : List ℕ} → Cleared n w₀ l₀ w l → (a f : ℕ) → a < 3 → f < n → tallyAt w l a f ≡ nothing
+cleared {n} {w₀} {l₀} s a f h i = s .each a f h ∙ ap (λ (b : Bool). cond b nothing (tallyAt w₀ l₀ a f)) (lt-ltb f n i)
 
 -- between the passes: the working numbers are as many as before, and there is room for j more cells at each fine vertex
 pub record Going (words longs count j : ℕ) (w l : List ℕ) : Type 0 where
@@ -87,11 +96,11 @@ module _ {m fine : Mesh} {count words longs out : ℕ} (r : Ready m fine count w
 
   -- ---- from pass to pass
 
-  pub start : (j : ℕ) (w l : List ℕ) → j ≤ 2 ^ 22 → (length w ≡ words) × (length l ≡ longs) → ((a f : ℕ) → a < 3 → f < count → tallyAt w l a f ≡ nothing) → Going words longs count j w l
-  start j w l h k e = record {
-    words-kept = k .0;
-    longs-kept = k .1;
-    room = λ a f b i. subst (Room j) (sym (e a f b i)) (record { few = omega arith; small = omega arith });
+  pub start : (j : ℕ) {w₀ l₀ w l : List ℕ} → j ≤ 2 ^ 22 → length w₀ ≡ words → length l₀ ≡ longs → Cleared count w₀ l₀ w l → Going words longs count j w l
+  start j {w₀} {l₀} h e e' s = record {
+    words-kept = s .words-kept ∙ e;
+    longs-kept = s .longs-kept ∙ e';
+    room = λ a f b i. subst (Room j) (sym (cleared s a f b i)) (record { few = omega arith; small = omega arith });
   }
 
   pub onward : (k : ℕ) {j : ℕ} {w l w' l' : List ℕ} {step : ℕ → ℕ → Tally → Tally} → Tallied k step w l w' l' → Going words longs count (k + j) w l → Going words longs count j w' l'

@@ -1,13 +1,29 @@
--- Three elements stored at 3 f, 3 f + 1 and 3 f + 2. Assumes nothing.
-use mathlib.Core.Path.{_≡_, refl, sym, _∙_, ap, subst}
+-- Loops that store something for each of 0, 1, ..; and three elements stored at 3 f, 3 f + 1 and 3 f + 2. Assumes nothing.
+use mathlib.Core.Path.{_≡_, refl, _∙_, ap}
 use mathlib.Core.Bool.{Bool, true, false, cond}
 use mathlib.Core.List.{List, [], _∷_}
 use Prim.Native.Nat.{ℕ, zero, suc, _+_, _*_, _≤_, _<_}
 use native.Mathlib.Omega.{arith}
 use lib.ListN.{length, getD, set, length-set}
 use lib.Seq.{getD-set-same, getD-set-other}
-use lib.Dec.{eqb}
-use borrow.Author.Tests.{eqb-true, eqb-false}
+use lib.Dec.{eqb, ltb}
+use borrow.Author.Tests.{eqb-true, eqb-false, ltb-true, ltb-false, lt-ltb, le-ltb}
+
+-- B v stands at each v below u: before the first turn, and after one more
+module _ {A : Type 0} (B : ℕ → A) (d : A) where
+  pub none-below : (v : ℕ) → d ≡ cond (ltb v 0) (B v) d
+  none-below v = rw (le-ltb v 0 (omega arith))
+
+  pub more-below : (u v : ℕ) → cond (eqb v u) (B u) (cond (ltb v u) (B v) d) ≡ cond (ltb v (u + 1)) (B v) d
+  more-below u v = go (eqb v u) refl (ltb v u) refl
+    where
+      above : (v u : ℕ) → u ≤ v → (v ≡ u → ⊥) → u + 1 ≤ v
+      above v u h n = omega arith
+
+      go : (b : Bool) → eqb v u ≡ b → (l : Bool) → ltb v u ≡ l → cond b (B u) (cond l (B v) d) ≡ cond (ltb v (u + 1)) (B v) d
+      go true e l f = let p : v ≡ u = eqb-true v u e in rw (lt-ltb v (u + 1) (omega arith), p)
+      go false e true f = rw (lt-ltb v (u + 1) (omega (arith, ltb-true v u f)))
+      go false e false f = rw (le-ltb v (u + 1) (above v u (ltb-false v u f) (eqb-false v u e)))
 
 module _ {A : Type 0} (d : A) where
   -- what holds of each of three elements, by axis

@@ -1,6 +1,6 @@
 // Coordinates counted from the least one, -2^29: sums of them are not negative, so that division rounds them toward minus infinity.
 ghost use mathlib.Core.Path.{_≡_};
-ghost use Prim.Native.Nat.{ℕ, _+_, _*_, _≤_, _<_, _^_};
+ghost use Prim.Native.Nat.{ℕ, _+_, _*_, _<_, _^_};
 ghost use lib.ListN.{length, getD};
 ghost use lib.IntN.{pos, _+ℤ_};
 ghost use Rattle.integers.specs.Range.{InRange};

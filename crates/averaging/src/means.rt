@@ -4,7 +4,7 @@ ghost use Prim.Native.Nat.{ℕ, _+_, _*_, _/_, _≤_, _<_, _^_};
 ghost use lib.ListN.{length, getD};
 ghost use lib.IntN.{pos, _+ℤ_};
 ghost use Rattle.averaging.specs.Tally.{tallyAt};
-ghost use Rattle.averaging.specs.Pass.{divisorOf, Complete, MeanOf};
+ghost use Rattle.averaging.specs.Pass.{Complete, MeanOf};
 use crate::coordinates::unbias;
 
 // 8 times 2 to the power rank.

@@ -1,15 +1,15 @@
 // The tallies of the fine vertices: vertex f has its rank at 2 f and its valence at 2 f + 1 of `words`, and its three sums from 3 f on of `longs`.
-ghost use mathlib.Core.Path.{_≡_};
 ghost use mathlib.Core.Bool.{cond};
 ghost use Prim.Native.Nat.{ℕ, _+_, _*_, _≤_, _<_, _^_};
 ghost use lib.ListN.{length, getD};
-ghost use lib.Dec.{eqb};
+ghost use lib.Dec.{ltb, eqb};
 ghost use Rattle.averaging.specs.Tally.{Tally, tallyAt, nothing, cornerStep, Changed, Room, Tallied};
 ghost use Rattle.averaging.specs.Pass.{gatheredAt, childStep, cellStep, tableStep, cellCount, cornerCount, Coarse, Fine};
 use crate::coordinates::child_sums;
 use crate::coordinates::gather;
 use crate::coordinates::vertex_at;
 
+// The numbers of one vertex.
 fn store(
     vertex: usize,
     rank: u32,
@@ -31,8 +31,7 @@ fn store(
 // Nothing is counted for the first n vertices.
 pub fn reset(n: usize, words: &mut [u32], longs: &mut [u64])
     requires { ⌜ (2 * n ≤ length (now words)) × (3 * n ≤ length (now longs)) ⌝ }
-    ensures { λ _. ⌜ (length (now (words .exit)) ≡ length (now (words .entry))) × (length (now (longs .exit)) ≡ length (now (longs .entry))) ⌝ }
-    ensures { λ _. ⌜ ((a f : ℕ) → a < 3 → f < n → tallyAt (now (words .exit)) (now (longs .exit)) a f ≡ nothing) ⌝ }
+    ensures { λ _. ⌜ Changed (λ (a f : ℕ) (t : Tally). cond (ltb f n) nothing t) (now (words .entry)) (now (longs .entry)) (now (words .exit)) (now (longs .exit)) ⌝ }
 {
     let mut f = 0;
     while f < n {

@@ -1,6 +1,6 @@
 -- `averaging::average` meets its contract: the passes leave the tallies of the counted cells, and their means are the coordinates after the
 -- round. Each need goes back from call to call. Assumes nothing.
-use mathlib.Core.Path.{sym, subst}
+use mathlib.Core.Path.{refl, sym, subst}
 use Prim.Native.Nat.{ℕ, _+_, _*_}
 use native.Mathlib.Omega.{arith}
 use borrow.Author.Needs.{needs}
@@ -18,7 +18,7 @@ count-table-requires : tie.Need-count-table-requires
 count-table-requires c κs =
     let reset = c .before .before .before .before .before .before .before .before in
     let r = reset .before .before .before .before .before .before .before .before .before .before .before .before .before .pre in
-    let g₀ = start r _ (reset .reset .last .1 .0) (reset .reset .last .1 .1 .0) (light-all r) (reset .reset .ensures .0) (reset .reset .ensures .1) in
+    let g₀ = start r _ (light-all r) refl refl (reset .reset .ensures) in
     takes r point _ (c .before .before .before .point-weights .ensures) g₀
 
 count-table-requires-2 : tie.Need-count-table-requires-2
@@ -26,7 +26,7 @@ count-table-requires-2 c κs =
     let points = c .before .before .before .before .before .before .before .before in
     let reset = points .before .before .before .before .before .before .before .before .before in
     let r = reset .before .before .before .before .before .before .before .before .before .before .before .before .before .pre in
-    let g₀ = start r _ (reset .reset .last .1 .0) (reset .reset .last .1 .1 .0) (light-all r) (reset .reset .ensures .0) (reset .reset .ensures .1) in
+    let g₀ = start r _ (light-all r) refl refl (reset .reset .ensures) in
     let g₁ = onward r _ (points .count-table .ensures) g₀ in
     takes r segment _ (c .before .before .before .segment-weights .ensures) g₁
 
@@ -36,7 +36,7 @@ count-table-requires-3 c κs =
     let points = segments .before .before .before .before .before .before .before .before .before in
     let reset = points .before .before .before .before .before .before .before .before .before in
     let r = reset .before .before .before .before .before .before .before .before .before .before .before .before .before .pre in
-    let g₀ = start r _ (reset .reset .last .1 .0) (reset .reset .last .1 .1 .0) (light-all r) (reset .reset .ensures .0) (reset .reset .ensures .1) in
+    let g₀ = start r _ (light-all r) refl refl (reset .reset .ensures) in
     let g₁ = onward r _ (points .count-table .ensures) g₀ in
     let g₂ = onward r _ (segments .count-table2 .ensures) g₁ in
     takes r quad _ (c .before .before .before .quad-weights .ensures) g₂
@@ -48,7 +48,7 @@ count-table-requires-4 c κs =
     let points = segments .before .before .before .before .before .before .before .before .before in
     let reset = points .before .before .before .before .before .before .before .before .before in
     let r = reset .before .before .before .before .before .before .before .before .before .before .before .before .before .pre in
-    let g₀ = start r _ (reset .reset .last .1 .0) (reset .reset .last .1 .1 .0) (light-all r) (reset .reset .ensures .0) (reset .reset .ensures .1) in
+    let g₀ = start r _ (light-all r) refl refl (reset .reset .ensures) in
     let g₁ = onward r _ (points .count-table .ensures) g₀ in
     let g₂ = onward r _ (segments .count-table2 .ensures) g₁ in
     let g₃ = onward r _ (quads .count-table3 .ensures) g₂ in
@@ -62,13 +62,13 @@ finish-requires c κs =
     let points = segments .before .before .before .before .before .before .before .before .before in
     let reset = points .before .before .before .before .before .before .before .before .before in
     let r = reset .before .before .before .before .before .before .before .before .before .before .before .before .before .pre in
-    let g₀ = start r _ (reset .reset .last .1 .0) (reset .reset .last .1 .1 .0) (light-all r) (reset .reset .ensures .0) (reset .reset .ensures .1) in
+    let g₀ = start r _ (light-all r) refl refl (reset .reset .ensures) in
     let g₁ = onward r _ (points .count-table .ensures) g₀ in
     let g₂ = onward r _ (segments .count-table2 .ensures) g₁ in
     let g₃ = onward r _ (quads .count-table3 .ensures) g₂ in
     let g₄ = onward r _ (hexes .count-table4 .ensures) g₃ in
     let t =
-    counted-tally r (reset .reset .ensures .1)
+    counted-tally r (reset .reset .ensures)
     (by-kind r point (points .before .before .before .before .point-weights .ensures) (points .count-table .ensures))
     (by-kind r segment (segments .before .before .before .before .segment-weights .ensures) (segments .count-table2 .ensures))
     (by-kind r quad (quads .before .before .before .before .quad-weights .ensures) (quads .count-table3 .ensures))
@@ -84,13 +84,13 @@ returns c =
     let points = segments .before .before .before .before .before .before .before .before .before in
     let reset = points .before .before .before .before .before .before .before .before .before in
     let r = reset .before .before .before .before .before .before .before .before .before .before .before .before .before .pre in
-    let g₀ = start r _ (reset .reset .last .1 .0) (reset .reset .last .1 .1 .0) (light-all r) (reset .reset .ensures .0) (reset .reset .ensures .1) in
+    let g₀ = start r _ (light-all r) refl refl (reset .reset .ensures) in
     let g₁ = onward r _ (points .count-table .ensures) g₀ in
     let g₂ = onward r _ (segments .count-table2 .ensures) g₁ in
     let g₃ = onward r _ (quads .count-table3 .ensures) g₂ in
     let g₄ = onward r _ (hexes .count-table4 .ensures) g₃ in
     let t =
-    counted-tally r (reset .reset .ensures .1)
+    counted-tally r (reset .reset .ensures)
     (by-kind r point (points .before .before .before .before .point-weights .ensures) (points .count-table .ensures))
     (by-kind r segment (segments .before .before .before .before .segment-weights .ensures) (segments .count-table2 .ensures))
     (by-kind r quad (quads .before .before .before .before .quad-weights .ensures) (quads .count-table3 .ensures))

@@ -1,17 +1,16 @@
 -- `averaging::coordinates::gather` meets its contract. The loop's invariant: the coordinates of the corners passed stand in the array, and 0
 -- in the rest of it. The measure is the corners left. Assumes nothing.
-use mathlib.Core.Path.{_≡_, refl, sym, _∙_, ap}
-use mathlib.Core.Bool.{Bool, true, false, cond}
+use mathlib.Core.Path.{_≡_, refl, _∙_, ap, ap₂}
+use mathlib.Core.Bool.{cond}
 use mathlib.Core.List.{List, [], _∷_}
 use Prim.Native.Nat.{ℕ, zero, suc, _+_, _*_, _-_, _≤_, _<_, _^_}
 use native.Mathlib.Omega.{arith}
 use borrow.Author.Needs.{needs}
-use borrow.Author.Tests.{eqb-true, eqb-false, ltb-true, ltb-false, lt-ltb, le-ltb}
 use lib.ListN.{length, getD, replicate, length-set}
-use lib.IntN.{ℤ, pos}
-use lib.Dec.{eqb, ltb, lit<}
+use lib.IntN.{ℤ}
+use lib.Dec.{eqb, lit<}
 use Rattle.averaging.specs.Pass.{biased, gatheredAt, cornerCoordinate}
-use Rattle.averaging.proofs.Triples.{on-axes, triple, triple-all, triple-each}
+use Rattle.averaging.proofs.Triples.{none-below, more-below, on-axes, triple, triple-all, triple-each}
 use Rattle.averaging.proofs.coordinates.gather.Statement.{statement}
 use Rattle.averaging.proofs.coordinates.gather.Tie as tie
 
@@ -27,14 +26,11 @@ zeros zero q = refl
 zeros (suc k) zero = refl
 zeros (suc k) (suc q) = zeros k q
 
-none-yet : (corners : List ℕ) (at : ℕ) (xs : List ℤ) (a v : ℕ) → 0 ≡ cornerCoordinate 0 corners at xs a v
-unfolding cornerCoordinate
-none-yet corners at xs a v = rw (le-ltb v 0 (omega arith))
-
 loop-holds : tie.Need-loop-holds Inv-loop μ-loop
+unfolding cornerCoordinate
 loop-holds c =
     let a = c .before .args in
-    (omega arith, refl, λ v x h. zeros 24 (3 * v + x) ∙ none-yet (a .corners .now) (a .n * a .c) (a .xs .now) x v, λ q. rw (zeros 24 q) (lit< tt))
+    (omega arith, refl, λ v x h. zeros 24 (3 * v + x) ∙ none-below (λ (v : ℕ). biased (a .xs .now) (3 * getD (a .corners .now) (a .n * a .c + v) 0 + x)) 0 v, λ q. rw (zeros 24 q) (lit< tt))
 
 -- one corner more
 one-more : (corners : List ℕ) (at : ℕ) (xs : List ℤ) (gathered : List ℕ) (u x y z : ℕ) → 3 * u + 2 < length gathered
@@ -42,21 +38,10 @@ one-more : (corners : List ℕ) (at : ℕ) (xs : List ℤ) (gathered : List ℕ)
     → ((a : ℕ) → a < 3 → getD (x ∷ y ∷ z ∷ []) a 0 ≡ biased xs (3 * getD corners (at + u) 0 + a))
     → (v a : ℕ) → a < 3 → gatheredAt (triple 0 gathered u x y z) a v ≡ cornerCoordinate (u + 1) corners at xs a v
 unfolding cornerCoordinate
-one-more corners at xs gathered u x y z fits old new v a h = triple-each 0 gathered u x y z v a fits h ∙ go (eqb v u) refl
-  where
-    go : (b : Bool) → eqb v u ≡ b → cond b (getD (x ∷ y ∷ z ∷ []) a 0) (gatheredAt gathered a v) ≡ cond (ltb v (u + 1)) (biased xs (3 * getD corners (at + v) 0 + a)) 0
-    go true e = let p : v ≡ u = eqb-true v u e in rw (p, lt-ltb u (u + 1) (omega arith)) (new a h)
-    go false e = old v a h ∙ ap (λ (b : Bool). cond b (biased xs (3 * getD corners (at + v) 0 + a)) 0) (same (eqb-false v u e))
-      where
-        same : (v ≡ u → ⊥) → ltb v u ≡ ltb v (u + 1)
-        same n = again (ltb v u) refl
-          where
-            again : (b : Bool) → ltb v u ≡ b → b ≡ ltb v (u + 1)
-            again true i = sym (lt-ltb v (u + 1) (omega (arith, ltb-true v u i)))
-            again false i = sym (le-ltb v (u + 1) (above v u (ltb-false v u i) n))
-              where
-                above : (v u : ℕ) → u ≤ v → (v ≡ u → ⊥) → u + 1 ≤ v
-                above v u h n = omega arith
+one-more corners at xs gathered u x y z fits old new v a h =
+    triple-each 0 gathered u x y z v a fits h
+    ∙ ap₂ (cond (eqb v u)) (new a h) (old v a h)
+    ∙ more-below (λ (v : ℕ). biased xs (3 * getD corners (at + v) 0 + a)) 0 u v
 
 -- the corner is a vertex
 known : (c : tie.After-vertex-at Inv-loop μ-loop) → 3 * c .vertex-at .result + 2 < length (c .before .before .before .before .args .xs .now)

@@ -1,6 +1,5 @@
 -- `averaging::means::eights` meets its contract: the shift drops no bit. Assumes nothing.
-use mathlib.Core.Path.{_≡_}
-use Prim.Native.Nat.{_≤_, _+_}
+
 use native.Mathlib.Omega.{arith}
 use borrow.Author.Needs.{needs}
 use lib.Dec.{lit<}

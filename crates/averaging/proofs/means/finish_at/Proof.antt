@@ -1,5 +1,5 @@
 -- `averaging::means::finish_at` meets its contract. Assumes nothing.
-use mathlib.Core.Path.{_≡_, refl, sym, _∙_, ap, subst}
+use mathlib.Core.Path.{_≡_, refl, sym, subst}
 use mathlib.Core.List.{List}
 use Prim.Native.Nat.{ℕ, _+_, _*_, _/_, _^_, _<_}
 use native.Mathlib.Omega.{arith}
@@ -7,12 +7,12 @@ use native.Mathlib.Nat.{mul-pos}
 use borrow.Author.Needs.{needs, sfits-of}
 use lib.Dec.{lit<}
 use lib.IntN.{ℤ, pos, _+ℤ_}
-use lib.ListN.{length, getD, length-set}
+use lib.ListN.{getD, length-set}
 use lib.Pow.{pow-pos}
 use mir.Syntax.{w32}
 use mir.Val.{SFits}
 use mir.ValLaws.{toZ-ofZ}
-use Rattle.averaging.specs.Tally.{Tally, tallyAt}
+use Rattle.averaging.specs.Tally.{tallyAt}
 use Rattle.averaging.specs.Pass.{divisorOf, Complete, MeanOf}
 use Rattle.averaging.proofs.Triples.{on-axes, triple-length, triple-at, triple-other}
 use Rattle.averaging.proofs.means.finish_at.Statement.{statement}

@@ -1,12 +1,12 @@
 -- `averaging::tallies::store` meets its contract. Assumes nothing.
 use mathlib.Core.Path.{_≡_, refl, _∙_, ap}
 use mathlib.Core.Bool.{cond}
-use Prim.Native.Nat.{ℕ, _+_, _*_}
+use Prim.Native.Nat.{ℕ}
 use native.Mathlib.Omega.{arith}
 use borrow.Author.Needs.{needs}
 use lib.ListN.{getD, length-set}
 use lib.Dec.{eqb}
-use Rattle.averaging.specs.Tally.{Tally, tallyAt}
+use Rattle.averaging.specs.Tally.{tallyAt}
 use Rattle.averaging.proofs.Triples.{on-axes}
 use Rattle.averaging.proofs.Stores.{stored}
 use Rattle.averaging.proofs.tallies.store.Statement.{statement}
