@@ -117,6 +117,12 @@ draws-inside κ i h =
     let q = in-map (λ (u : ℕ). record { vertex = u; weight = 8 / length p }) p t m in
     subst Below (sym (q .2)) (whole-below κ (q .0) (placed κ p (smallest-part κ i h j k) (q .0) (q .1))))))
 
+pub corners-some : (κ : Kind) → 0 < corners κ
+corners-some hex = omega arith
+corners-some quad = omega arith
+corners-some segment = omega arith
+corners-some point = omega arith
+
 pub corners-most : (κ : Kind) → corners κ ≤ 8
 corners-most hex = omega arith
 corners-most quad = omega arith

@@ -31,7 +31,7 @@ use Rattle.averaging.specs.Ready.{table}
 use Rattle.averaging.proofs.Steps.{repeat-same}
 use Rattle.averaging.proofs.Folds.{foldOver, fold-concatMap, fold-places, concat-at}
 use Rattle.averaging.specs.Weights.{weightRows}
-use Rattle.averaging.proofs.ChildSums.{child-total}
+use Rattle.averaging.proofs.ChildSums.{corners-some, child-total}
 use Rattle.averaging.proofs.Passed.{visit, passed}
 
 -- ---- a cell that names no corner twice counts once for each corner
@@ -45,12 +45,6 @@ once-counted d s f (g ∷ gs) o t = go (eqb f g) refl (once-counted d s f gs (o 
         → foldOver (λ (g : ℕ). cornerStep d s g f) gs (cond b (counting d s t) t) ≡ cond (b || any (eqb f) gs) (counting d s t) t
     go true e r = r (counting d s t) ∙ ap (λ (b : Bool). cond b (counting d s (counting d s t)) (counting d s t)) (not-has f gs (λ i. o .0 (subst (λ (x : ℕ). In x gs) (eqb-true f g e) i)))
     go false e r = r t
-
-pub corners-some : (κ : Kind) → 0 < corners κ
-corners-some hex = omega arith
-corners-some quad = omega arith
-corners-some segment = omega arith
-corners-some point = omega arith
 
 cells-cut : (m : Mesh) (κ : Kind) → cellsOf (topology m) κ ≡ cut (corners κ) (table m κ)
 unfolding topology
@@ -108,7 +102,7 @@ module _ (m : Mesh) (s : Sound (topology m)) (κ : Kind) where
       ∙ children-at (cell c) i l
 
   -- a corner of a child in the flat table of fine cells
-  pub fine-at : (c i j : ℕ) → c < length cells → i < n → j < n → getD (concat fine) (n * n * c + n * i + j) 0 ≡ getD (born c i) j 0
+  fine-at : (c i j : ℕ) → c < length cells → i < n → j < n → getD (concat fine) (n * n * c + n * i + j) 0 ≡ getD (born c i) j 0
   fine-at c i j h l k =
       let inside : n * c + i < length fine = omega (arith, length-cells t κ, mul-le-mul-left n h) in
       ap (λ (q : ℕ). getD (concat fine) q 0) (regroup n c i j)

@@ -1,6 +1,8 @@
 -- Laws that the proofs of the averaging share.
 -- Sums: sums of numbers 0 .. n - 1.
 pub mod Sums
+-- Biased: a coordinate with 2 ^ 29 added.
+pub mod Biased
 -- Triples: three elements stored at 3 f, 3 f + 1, 3 f + 2.
 pub mod Triples
 -- Stores: what the stores of a vertex's numbers make of its tally.

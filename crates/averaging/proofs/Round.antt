@@ -9,8 +9,7 @@ use lib.ListN.{length, getD, drop, length-append, length-drop, List·getD-append
 use lib.Seq.{ext-getD, getD-append-add, getD-drop}
 use borrow.Author.Tests.{ltb-true, ltb-false}
 use lib.Dec.{ltb}
-use lib.Signed.{pos-natAbs}
-use lib.IntN.{ℤ, pos, natAbs, _+ℤ_}
+use lib.IntN.{ℤ, pos, _+ℤ_}
 use Rattle.rules.specs.Lists.{overwritten}
 use Rattle.rules.specs.Mesh.{Mesh, hex, quad, segment, point, topology}
 use Rattle.rules.specs.Split.{parts, splitBy, split}
@@ -19,8 +18,6 @@ use Rattle.rules.specs.Averaging.{rank, valence, counted, cellDraws, meanAt, me
 use Rattle.lists.proofs.Each.{each-at}
 use Rattle.lists.proofs.Membership.{getD-map}
 use Rattle.integers.specs.Range.{InRange}
-use Rattle.integers.proofs.Linear.{var, nat, _⊕_}
-use Rattle.integers.proofs.Range.{range-parts, not-negative, size}
 use Rattle.rounding.specs.Good.{GoodMean}
 use Rattle.rounding.proofs.Draws.{natTotal, natTotal-le, natTotal-concatMap, rounded-biased}
 use Rattle.soundness.proofs.Rounds.{length-averaged, length-means}
@@ -33,17 +30,10 @@ use Rattle.accuracy.proofs.Range.{all-in-range}
 use Rattle.averaging.specs.Tally.{Tally, tallyAt, Tallied}
 use Rattle.averaging.specs.Pass.{biased, divisorOf, Complete, MeanOf}
 use Rattle.averaging.specs.Ready.{Ready}
+use Rattle.averaging.proofs.Biased.{biased-is, biased-below}
 use Rattle.averaging.proofs.Passed.{tallyOf, passed-all}
 use Rattle.averaging.proofs.Children.{value}
 use Rattle.averaging.proofs.Tables.{Cleared, cleared, kindStep}
-
--- ---- a biased coordinate
-
-biased-is : (z : ℤ) → InRange z → pos (natAbs (z +ℤ pos (2 ^ 29))) ≡ z +ℤ pos (2 ^ 29)
-biased-is z h = let p = range-parts z h in pos-natAbs (z +ℤ pos (2 ^ 29)) (not-negative (var z ⊕ nat (2 ^ 29)) (omega (arith, p)))
-
-biased-below : (z : ℤ) → InRange z → natAbs (z +ℤ pos (2 ^ 29)) < 2 ^ 30
-biased-below z h = let p = range-parts z h in omega (arith, p, size (var z ⊕ nat (2 ^ 29)) (omega (arith, p)))
 
 module _ {m fine : Mesh} {count words longs out : ℕ} (r : Ready m fine count words longs out) where
   -- ---- the four passes

@@ -22,9 +22,9 @@ use Rattle.averaging.specs.Pass.{tableStep, cellCount, cornerCount, Coar
 use Rattle.averaging.specs.Ready.{table, Ready}
 use Rattle.averaging.proofs.Steps.{tallied-by}
 use Rattle.averaging.specs.Weights.{weightRows}
-use Rattle.averaging.proofs.ChildSums.{length-rows, corners-most}
+use Rattle.averaging.proofs.ChildSums.{length-rows, corners-some, corners-most}
 use Rattle.averaging.proofs.Passed.{passed}
-use Rattle.averaging.proofs.Children.{corners-some, value, count-cells, corner-at, table-is}
+use Rattle.averaging.proofs.Children.{value, count-cells, corner-at, table-is}
 
 -- nothing is counted for the first n vertices
 abbrev pub Cleared : ℕ → List ℕ → List ℕ → List ℕ → List ℕ → Type 0
