@@ -1,7 +1,7 @@
 -- Document 01, 'The mesh': five tables, four kinds of cells, and the parts of a cell.
 use mathlib.Core.Bool.{cond, _&&_}
 use mathlib.Core.List.{List, [], _∷_, map}
-use Prim.Native.Nat.{ℕ, _/_}
+use Prim.Native.Nat.{ℕ, suc, _/_}
 use lib.ListN.{length, getD}
 use lib.IntN.{ℤ}
 use Rattle.rules.specs.Lists.{concat, cut, upFrom, has}
@@ -114,11 +114,19 @@ places κ d = getD (byDimension κ) d []
 unfoldable pub cellParts : Kind → List (List ℕ)
 cellParts κ = concat (byDimension κ)
 
--- the first part of a list that holds the places i and j
-unfoldable pub firstHolding : ℕ → ℕ → List (List ℕ) → List ℕ
-firstHolding i j [] = []
-firstHolding i j (p ∷ ps) = let r = firstHolding i j ps in cond (has i p && has j p) p r
+-- the number of the first part of a list that holds the places i and j
+unfoldable pub firstHolding : ℕ → ℕ → List (List ℕ) → ℕ
+firstHolding i j [] = 0
+firstHolding i j (p ∷ ps) = let r = firstHolding i j ps in cond (has i p && has j p) 0 (suc r)
 
 -- "the smallest edge, face or cell of the parent that holds corners i and j; if i = j it is that corner"
 unfoldable pub smallest : Kind → ℕ → ℕ → List ℕ
-smallest κ i j = firstHolding i j (cellParts κ)
+smallest κ i j = let ps = cellParts κ in getD ps (firstHolding i j ps) []
+
+-- "the table of smallest part for corners i, j": in row i and column j the number of that part among the cell's parts
+unfoldable pub smallestTable : Kind → List (List ℕ)
+smallestTable κ = map (λ (i : ℕ). map (λ (j : ℕ). firstHolding i j (cellParts κ)) (whole κ)) (whole κ)
+
+-- corner k of part number p of a list of parts; also what stands in row p and column k of a table
+abbrev pub placeOf : List (List ℕ) → ℕ → ℕ → ℕ
+placeOf ps p k = getD (getD ps p []) k 0

@@ -1,0 +1,17 @@
+-- Laws of lists.
+-- Each: what holds of each element of a list, and what stands at a place of a mapped one.
+pub mod Each
+-- What is in a list: after joining, mapping, choosing; at which place.
+pub mod Membership
+-- Lists without repeats, and their lengths.
+pub mod Once
+-- Tests over lists decide statements over lists.
+pub mod Tests
+-- Keys: a key is decided by its members.
+pub mod Keys
+-- The distinct keys of a list, in the order first met, and their places.
+pub mod Distinct
+-- Flat tables and their entries.
+pub mod Tables
+-- Finite statements, decided by computing.
+pub mod Decide
