@@ -1,0 +1,7 @@
+-- Laws that the checks share.
+-- Scans: a loop that goes through a list and stops at the first element that passes a test.
+pub mod Scans
+-- ByKind: the checks by table.
+pub mod ByKind
+-- Parts: parts of a slice that a call is lent.
+pub mod Parts
