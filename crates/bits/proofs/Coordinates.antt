@@ -1,39 +1,27 @@
 -- A coordinate as a field of 30 bits, two's complement: the two ways are inverse, and what the code adds and takes off.
 use Prim.Native.Nat.{ℕ, suc, _+_, _-_, _^_, _≤_, _<_}
 use mathlib.Core.Path.{_≡_, refl, sym, ap, subst, _∙_}
-use mathlib.Core.Bool.{Bool, true, false, cond, true≢false, _||_, or-false}
+use mathlib.Core.Bool.{Bool, true, false, cond, true≢false}
 use mathlib.Core.Logic.{_⊎_, inl, inr, ⊎-elim}
 use mathlib.Core.List.{List, map}
 use native.Mathlib.Decide.{decLt}
 use native.Mathlib.Omega.{arith}
 use lib.IntN.{ℤ, pos, negsuc, _+ℤ_, _-ℤ_}
 use lib.Signed.{mag, ltZ}
-use lib.Dec.{ltb}
 use lib.ListN.{getD, List·getD-map}
 use mir.Syntax.{w32}
 use mir.Val.{toZ, ofZ}
 use mir.Facts.{toZ-ofZ}
-use borrow.Author.Tests.{lt-ltb, le-ltb, ltb-true, ltb-false}
+use borrow.Author.Tests.{lt-ltb, le-ltb, ltb-true}
 use Rattle.rules.specs.Refusals.{outside}
 use Rattle.rules.specs.StoredForm.{toField, ofField}
-
--- ---- the range
-
-pub near : (z : ℤ) → outside z ≡ false → mag z < 2 ^ 29
-unfolding outside
-near (pos n) h = omega (arith, ltb-false 536_870_911 n h)
-near (negsuc n) h = omega (arith, ltb-false 536_870_911 n (sym (or-false (ltb 536_870_911 n)) ∙ h))
-
-pub outside-far : (z : ℤ) → mag z < 2 ^ 29 → outside z ≡ false
-unfolding outside
-outside-far (pos n) h = le-ltb 536_870_911 n (omega arith)
-outside-far (negsuc n) h = ap (λ (t : Bool). t || false) (le-ltb 536_870_911 n (omega arith))
+use Rattle.integers.proofs.Range.{inside}
 
 -- ---- the two ways are inverse
 
 pub toField-lt : (z : ℤ) → outside z ≡ false → toField z < 2 ^ 30
 unfolding toField
-toField-lt (pos n) h = omega (arith, near (pos n) h)
+toField-lt (pos n) h = omega (arith, inside (pos n) .0 h)
 toField-lt (negsuc n) h = omega arith
 
 halves : (v : ℕ) → (v < 2 ^ 29) ⊎ (2 ^ 29 ≤ v)
@@ -49,9 +37,9 @@ high-half v h = ap (λ (t : Bool). cond t (pos v) (negsuc (2 ^ 30 - (v + 1)))) (
 
 pub ofField-toField : (z : ℤ) → outside z ≡ false → ofField (toField z) ≡ z
 unfolding toField
-ofField-toField (pos n) h = low-half n (near (pos n) h)
+ofField-toField (pos n) h = low-half n (inside (pos n) .0 h)
 ofField-toField (negsuc n) h =
-    let l : n < 2 ^ 29 = near (negsuc n) h in
+    let l : n < 2 ^ 29 = inside (negsuc n) .0 h in
     let v : ℕ = 2 ^ 30 - (n + 1) in
     let back : 2 ^ 30 - (v + 1) ≡ n = omega arith in
     high-half v (omega arith) ∙ ap negsuc back
@@ -74,7 +62,7 @@ pub add-below : (z : ℤ) → outside z ≡ false → ltZ z (pos 0) ≡ true →
 unfolding toField
 add-below (pos n) h t = absurd (omega (arith, ltb-true n 0 t))
 add-below (negsuc n) h t =
-    let l : n < 2 ^ 29 = near (negsuc n) h in
+    let l : n < 2 ^ 29 = inside (negsuc n) .0 h in
     let e : suc n ≡ n + 1 = omega arith in
     ap (λ (b : Bool). cond b (negsuc (suc n - suc (2 ^ 30))) (pos (2 ^ 30 - suc n))) (le-ltb (2 ^ 30) (suc n) (omega arith))
     ∙ ap (λ (m : ℕ). pos (2 ^ 30 - m)) e

@@ -12,9 +12,10 @@ use mir.Syntax.{w32}
 use mir.Val.{toZ, ofZ}
 use Rattle.rules.specs.Refusals.{outside}
 use Rattle.rules.specs.StoredForm.{toField, tableFields}
+use Rattle.integers.proofs.Range.{inside}
 use Rattle.bits.specs.Writing.{putAt, putAll}
 use Rattle.bits.proofs.Writing.{put-step, put-none}
-use Rattle.bits.proofs.Coordinates.{near, toField-lt, kept, getD-toField}
+use Rattle.bits.proofs.Coordinates.{toField-lt, kept, getD-toField}
 use Rattle.bits.proofs.put_coordinates.Statement.{statement}
 use Rattle.bits.proofs.put_coordinates.Tie as tie
 
@@ -40,7 +41,7 @@ shared-slice-copy-out-to-field c = search needs
 same : (start : tie.Start Inv-loop μ-loop) (i : ℕ) → let z = getD (start .args .t .now) i (pos 0) in toZ w32 (ofZ w32 z) ≡ z
 same start i =
     let z = getD (start .args .t .now) i (pos 0) in
-    kept z (near z (start .pre .1 i))
+    kept z (inside z .0 (start .pre .1 i))
 
 to-field-requires : tie.Need-to-field-requires Inv-loop μ-loop
 to-field-requires c κs =
