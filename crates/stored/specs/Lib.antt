@@ -1,0 +1,4 @@
+-- Fields: what a field read answers, and what the reads of the header answer together.
+pub mod Fields
+-- Reading: the checks of a file, part by part, and the answers that they lead to.
+pub mod Reading
