@@ -76,3 +76,22 @@ pub fields-kept : (s : List ℕ) (p n : ℕ) (rule : Rule) → any (breaks rule)
     → fieldsUnder s p rule n ≡ F.Value n (cursor (p + rule .width * n))
 unfolding fieldsUnder
 fields-kept s p n rule h = rw h
+
+-- what the row tells
+pub row-broken : (s : List ℕ) (p n : ℕ) (rule : Rule) {k : ℕ} → fieldsUnder s p rule n ≡ F.Refused k
+    → (k ≡ rule .refusal) × (any (breaks rule) (tableAt s p (rule .width) n) ≡ true)
+unfolding fieldsUnder
+row-broken s p n rule {k} e = go (any (breaks rule) (tableAt s p (rule .width) n)) e
+  where
+    go : (b : Bool) → cond b (F.Refused (rule .refusal)) (F.Value n (cursor (p + rule .width * n))) ≡ F.Refused k → (k ≡ rule .refusal) × (b ≡ true)
+    go true e = (cc, refl)
+    go false e = absurd (let z : _≡_ {A = ℕ} 0 1 = cc in omega arith)
+
+pub row-kept : (s : List ℕ) (p n : ℕ) (rule : Rule) {v : ℕ} {c : Cursor} → fieldsUnder s p rule n ≡ F.Value v c
+    → any (breaks rule) (tableAt s p (rule .width) n) ≡ false
+unfolding fieldsUnder
+row-kept s p n rule {v} {c} e = go (any (breaks rule) (tableAt s p (rule .width) n)) e
+  where
+    go : (b : Bool) → cond b (F.Refused (rule .refusal)) (F.Value n (cursor (p + rule .width * n))) ≡ F.Value v c → b ≡ false
+    go true e = absurd (let z : _≡_ {A = ℕ} 0 1 = cc in omega arith)
+    go false e = refl

@@ -7,4 +7,6 @@
 //
 // Both promise the answer and all lent memory by the rules' equations, and that the one undoes the other (specs/Inverse.antt).
 pub mod fields;
+pub mod file;
 pub mod header;
+pub mod layout;
