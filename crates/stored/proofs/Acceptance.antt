@@ -1,6 +1,6 @@
 -- What an accepted file and an accepted mesh are known to be, and that what is so is accepted.
 use Prim.Native.Nat.{ℕ, zero, suc, _%_, _^_, _≤_, _<_}
-use mathlib.Core.Path.{_≡_, refl, sym, ap, _∙_}
+use mathlib.Core.Path.{_≡_, refl, ap, _∙_}
 use mathlib.Core.Bool.{Bool, true, false, not}
 use mathlib.Core.List.{List}
 use native.Mathlib.Omega.{arith}
@@ -15,7 +15,6 @@ use Rattle.rules.specs.Refusals.{check, partialEntry, countOutOfRange, outside,
 use Rattle.rules.specs.EntryPoints.{countsAnswer, resultTables}
 use Rattle.rules.specs.Bits.{number, bytesFor, filling}
 use Rattle.rules.specs.StoredForm.{headerOf, indexWidth, layout, storedMesh, headerCut, unknownForm, wrongWidth, wrongLength, spareBits, readingRefusal}
-use Rattle.stored.specs.declared.header.Head.{Head}
 use Rattle.stored.specs.declared.header.Head.the-variants as H
 use Rattle.stored.specs.Form.{headerFor}
 use Rattle.stored.specs.Reading.{headOf, answerOf, headerChecks, bodyChecks, fileChecks}
@@ -147,6 +146,16 @@ accepting s later a =
       eq-eqb (number s % 2 ^ filling end) 0 (a .body .zeros),
       a .body .corners,
     )
+
+-- reading accepts a file if the lent tables have room
+pub reading-accepts : (s : List ℕ) (lent : Counts) → Accepted s → fewer lent (headerOf s .counts) ≡ false → readingRefusal s lent ≡ 0
+reading-accepts s lent a e = reading-later s lent ∙ rw (accepting s 0 a, e)
+
+pub reading-accepted : (s : List ℕ) (lent : Counts) → readingRefusal s lent ≡ 0 → Accepted s × (fewer lent (headerOf s .counts) ≡ false)
+unfolding readingRefusal fileChecks headerChecks bodyChecks
+reading-accepted s lent e =
+    let a = accepted s (check (fewer lent (headerOf s .counts)) 11 0) e in
+    (a .0, passes (fewer lent (headerOf s .counts)) 11 0 (omega arith) (a .1) .0)
 
 -- ---- an accepted mesh
 

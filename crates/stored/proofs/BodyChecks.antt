@@ -1,17 +1,16 @@
 -- The reads behind the header make the checks 13, 16 and 4 in this order.
-use Prim.Native.Nat.{ℕ, zero, suc, _+_, _-_, _*_, _/_, _%_, _^_, _≤_, _<_}
+use Prim.Native.Nat.{ℕ, zero, suc, _+_, _-_, _*_, _/_, _%_, _^_, _<_}
 use mathlib.Core.Path.{_≡_, refl, sym, ap, ap₂, _∙_, subst}
-use mathlib.Core.Bool.{Bool, true, false, not, _||_}
-use mathlib.Core.List.{List, [], _∷_, _++_}
-use native.Mathlib.Nat.{add-assoc, mul-suc, zero-add}
+use mathlib.Core.Bool.{false, not}
+use mathlib.Core.List.{List, _∷_, _++_}
 use native.Mathlib.Omega.{arith}
 use lib.ListN.{length}
-use lib.Dec.{leb, ltb, eqb, eqb·suc-zero}
+use lib.Dec.{leb, eqb, eqb·suc-zero}
 use borrow.Author.Tests.{lt-ltb, le-ltb, eq-eqb, ne-eqb}
 use Rattle.rules.specs.declared.Counts.{Counts}
 use Rattle.rules.specs.Lists.{any}
-use Rattle.rules.specs.Mesh.{Mesh, topology}
-use Rattle.rules.specs.Refusals.{check, cornerOutOfRange}
+use Rattle.rules.specs.Mesh.{topology}
+use Rattle.rules.specs.Refusals.{cornerOutOfRange}
 use Rattle.rules.specs.Bits.{number, fieldAt, tableAt, bytesFor, filling}
 use Rattle.rules.specs.StoredForm.{Header, headerOf, layout, storedMesh, wrongLength, spareBits}
 use Rattle.rules.specs.Counts.{outOfRange}
@@ -26,10 +25,10 @@ use Rattle.stored.specs.declared.layout.Layout.{Layout}
 use Rattle.stored.specs.Fields.{breaks, fieldUnder, fieldsUnder}
 use Rattle.stored.specs.Form.{headerFor, Laid}
 use Rattle.stored.specs.Reading.{headOf, bodyChecks}
-use Rattle.stored.proofs.FieldReads.{Kept, Broken, field-kept, field-broken, row-kept, row-broken}
+use Rattle.stored.proofs.FieldReads.{field-kept, field-broken, row-kept, row-broken}
 use Rattle.stored.proofs.Acceptance.{HeaderAccepted}
 use Rattle.stored.proofs.Bounds.{Small, small, Numbers, numbers}
-use Rattle.stored.proofs.Form.{meshUnder, stored-under, Sized, under-sized, sized-whole}
+use Rattle.stored.proofs.Form.{meshUnder, stored-under, under-sized, sized-whole}
 
 -- ---- corners
 
@@ -84,9 +83,12 @@ breaks-corner at c h v =
 pub record Body (s : List ℕ) (c : Counts) (at : Layout) : Type 0 where
   pub header : headerOf s ≡ headerFor c
   pub small : Small (at .width) c
-  pub numbers : Numbers at
+  pub numbers : Numbers c at
   pub width : at .width ≡ headerOf s .width
   pub hexes : at .hexes ≡ layout (headerOf s) .hexes
+  pub quads : at .quads ≡ layout (headerOf s) .quads
+  pub segments : at .segments ≡ layout (headerOf s) .segments
+  pub points : at .points ≡ layout (headerOf s) .points
   pub corners : at .corners ≡ 8 * c .hexes + (4 * c .quads + (2 * c .segments + c .points))
   pub end : at .end ≡ layout (headerOf s) .end
   pub bytes : at .bytes ≡ bytesFor (layout (headerOf s) .end)
@@ -101,6 +103,9 @@ body-known s c at a e l =
       numbers = numbers c at r l;
       width = l .width ∙ ap (λ x. x .width) (sym h);
       hexes = l .hexes ∙ ap (λ x. layout x .hexes) (sym h);
+      quads = l .quads ∙ ap (λ x. layout x .quads) (sym h);
+      segments = l .segments ∙ ap (λ x. layout x .segments) (sym h);
+      points = l .points ∙ ap (λ x. layout x .points) (sym h);
       corners = l .corners;
       end = l .end ∙ ap (λ x. layout x .end) (sym h);
       bytes = l .bytes ∙ ap (λ x. bytesFor (layout x .end)) (sym h);

@@ -1,5 +1,5 @@
 -- The index width and the bits of each table are small where the counts are in their ranges.
-use Prim.Native.Nat.{ℕ, _+_, _-_, _*_, _^_, _≤_, _<_}
+use Prim.Native.Nat.{ℕ, _+_, _-_, _*_, _≤_, _<_}
 use mathlib.Core.Path.{_≡_, refl, sym, ap, _∙_, subst}
 use mathlib.Core.Bool.{false}
 use native.Mathlib.Nat.{mul-le-mul-left, mul-le-mul-right, le-trans}
@@ -13,7 +13,7 @@ use Rattle.soundness.proofs.Rounds.{in-range}
 use Rattle.bits.proofs.IndexWidth.{width-le, width-pos}
 use Rattle.bits.proofs.Fields.{bytesFor-ge, bytesFor-lt}
 use Rattle.stored.specs.declared.layout.Layout.{Layout}
-use Rattle.stored.specs.Form.{headerFor, Laid}
+use Rattle.stored.specs.Form.{Laid}
 
 times : (w n k : ℕ) → w ≤ 20 → n ≤ k → w * n ≤ 20 * k
 times w n k h l = le-trans (mul-le-mul-right n h) (mul-le-mul-left 20 l)
@@ -44,14 +44,19 @@ small w c h e =
     }
 
 -- the layout in numbers
-pub record Numbers (at : Layout) : Type 0 where
+pub record Numbers (c : Counts) (at : Layout) : Type 0 where
+  pub vertices : 101 + 30 * (3 * c .vertices) ≡ at .hexes
+  pub hexes : at .hexes + at .width * (8 * c .hexes) ≡ at .quads
+  pub quads : at .quads + at .width * (4 * c .quads) ≡ at .segments
+  pub segments : at .segments + at .width * (2 * c .segments) ≡ at .points
+  pub points : at .points + at .width * c .points ≡ at .end
   pub row : at .hexes + at .width * at .corners ≡ at .end
   pub fits : at .end ≤ 8 * at .bytes
   pub close : 8 * at .bytes < at .end + 8
   pub header : 101 ≤ at .end
   pub short : at .end ≤ 165_000_101
 
-pub numbers : (c : Counts) (at : Layout) → outOfRange c ≡ false → Laid c at → Numbers at
+pub numbers : (c : Counts) (at : Layout) → outOfRange c ≡ false → Laid c at → Numbers c at
 unfolding layout
 numbers c at h l =
     let w = indexWidth c in
@@ -59,6 +64,11 @@ numbers c at h l =
     let end : at .end ≡ 101 + 30 * (3 * c .vertices) + w * (8 * c .hexes) + w * (4 * c .quads) + w * (2 * c .segments) + w * c .points = l .end in
     let bytes = l .bytes ∙ ap bytesFor (sym (l .end)) in
     record {
+      vertices = sym (l .hexes);
+      hexes = rw (l .hexes, l .width, l .quads);
+      quads = rw (l .quads, l .width, l .segments);
+      segments = rw (l .segments, l .width, l .points);
+      points = rw (l .points, l .width, l .end);
       row = rw (l .hexes, l .width, l .corners, end) (omega arith);
       fits = rw bytes (bytesFor-ge (at .end));
       close = rw bytes (bytesFor-lt (at .end));

@@ -1,10 +1,10 @@
 -- What a field read tells: of a value, that it keeps the rule and where the next field begins; of a refusal, that the rule is broken.
-use Prim.Native.Nat.{ℕ, _+_, _*_, _≤_, _<_}
+use Prim.Native.Nat.{ℕ, _+_, _*_, _<_}
 use mathlib.Core.Path.{_≡_, refl, sym, ap, _∙_}
 use mathlib.Core.Bool.{Bool, true, false, cond}
 use mathlib.Core.List.{List}
 use native.Mathlib.Omega.{arith}
-use lib.ListN.{length, take, getD}
+use lib.ListN.{getD}
 use Rattle.rules.specs.Lists.{any}
 use Rattle.rules.specs.Bits.{fieldAt, tableAt}
 use Rattle.lists.proofs.Membership.{getD-in}
@@ -12,7 +12,6 @@ use Rattle.lists.proofs.Tests.{in-any}
 use Rattle.bits.proofs.Tables.{length-tableAt, getD-tableAt}
 use Rattle.stored.specs.declared.fields.Cursor.{Cursor}
 use Rattle.stored.specs.declared.fields.Rule.{Rule}
-use Rattle.stored.specs.declared.fields.Field.{Field}
 use Rattle.stored.specs.declared.fields.Field.the-variants as F
 use Rattle.stored.specs.declared.header.Head.{Head}
 use Rattle.stored.specs.declared.header.Head.the-variants as H

@@ -3,7 +3,6 @@ use Prim.Native.Nat.{ℕ, zero, suc, _+_, _*_, _/_, _%_, _^_, _<_}
 use mathlib.Core.Path.{_≡_, refl, sym, ap, ap₂, _∙_, subst}
 use mathlib.Core.List.{List, [], _∷_, _++_, map}
 use native.Mathlib.Omega.{arith}
-use lib.IntN.{ℤ}
 use lib.ListN.{length, getD, length-map}
 use lib.Pow.{pow-pos}
 use Rattle.rules.specs.Mesh.{Mesh, hex, quad, segment}
@@ -15,7 +14,6 @@ use borrow.Author.Tests.{eq-eqb, eqb-true, not-false}
 use mathlib.Core.Bool.{false, not}
 use lib.Dec.{eqb}
 use Rattle.rules.specs.Counts.{countsOf}
-use Rattle.rules.specs.declared.Counts.{Counts}
 use Rattle.rules.specs.Bits.{tableAt, Field, bitsIn}
 use Rattle.rules.specs.StoredForm.{toField, ofField, Header, tableFields, headerFields, headerOf, layout, storedMesh}
 use Rattle.bits.proofs.Fields.{field-lt}
@@ -107,11 +105,11 @@ whole-sized m e =
     }
 
 -- the header's fields, and where the tables end
-bits-header : (h : Header) → bitsIn (headerFields h) ≡ 101
+pub bits-header : (h : Header) → bitsIn (headerFields h) ≡ 101
 unfolding headerFields bitsIn
 bits-header h = refl
 
-bits-tables : (h : Header) (m : Mesh)
+pub bits-tables : (h : Header) (m : Mesh)
     → bitsIn (tablesUnder h m)
     ≡ 30 * length (m .vertices) + (h .width * length (m .hexes) + (h .width * length (m .quads) + (h .width * length (m .segments) + h .width * length (m .points))))
 bits-tables h m =
@@ -172,7 +170,7 @@ fields-again : (t : List ℕ) → ((i : ℕ) → getD t i 0 < 2 ^ 30) → map to
 fields-again [] h = refl
 fields-again (v ∷ t) h = ap₂ (λ (x : ℕ) (l : List ℕ). x ∷ l) (toField-ofField v (h 0)) (fields-again t (λ i. h (suc i)))
 
-table-lt : (s : List ℕ) (p w n i : ℕ) → getD (tableAt s p w n) i 0 < 2 ^ w
+pub table-lt : (s : List ℕ) (p w n i : ℕ) → getD (tableAt s p w n) i 0 < 2 ^ w
 unfolding tableAt
 table-lt s p w zero i = pow-pos w
 table-lt s p w (suc n) zero = field-lt s p w

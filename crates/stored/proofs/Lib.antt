@@ -12,3 +12,7 @@ pub mod Bounds
 pub mod BodyChecks
 -- Inverse: reading and writing undo each other.
 pub mod Inverse
+-- Storing: what the code stores and puts is what reading and writing leave.
+pub mod Storing
+-- Answers: the returns of the two entry points, case by case.
+pub mod Answers

@@ -3,7 +3,6 @@ use mathlib.Core.Bool.{Bool, cond, not, _||_}
 use mathlib.Core.List.{List}
 use Prim.Native.Nat.{ℕ, _+_, _-_, _*_}
 use lib.Dec.{ltb, eqb}
-use Rattle.rules.specs.declared.Counts.{Counts}
 use Rattle.rules.specs.Lists.{any}
 use Rattle.rules.specs.Bits.{fieldAt, tableAt, widthOf}
 use Rattle.stored.specs.declared.fields.Cursor.{Cursor}

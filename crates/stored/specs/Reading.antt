@@ -1,5 +1,4 @@
 -- The checks of a file, part by part in reading's order, and the answers that they lead to.
-use mathlib.Core.Bool.{Bool}
 use mathlib.Core.List.{List}
 use Prim.Native.Nat.{ℕ, zero, suc}
 use Rattle.rules.specs.declared.Counts.{Counts}

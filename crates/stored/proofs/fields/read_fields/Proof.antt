@@ -1,13 +1,13 @@
 -- `stored::fields::read_fields` meets its contract. The loop's invariant: the cursor stands behind the first i fields, and none of them
 -- breaks the rule.
 use borrow.Author.Needs.{needs}
-use Prim.Native.Nat.{ℕ, suc, _+_, _-_, _*_, _^_, _≤_, _<_}
+use Prim.Native.Nat.{ℕ, _+_, _-_, _*_, _^_, _≤_, _<_}
 use mathlib.Core.Path.{_≡_, sym, ap, _∙_}
 use mathlib.Core.Bool.{false}
 use mathlib.Core.List.{List}
 use native.Mathlib.Nat.{mul-zero}
 use native.Mathlib.Omega.{arith}
-use lib.ListN.{length, getD}
+use lib.ListN.{length}
 use borrow.Author.Count.{below-none, below-more}
 use Rattle.rules.specs.Bits.{fieldAt, tableAt}
 use Rattle.lists.proofs.Tests.{at-none}
@@ -15,7 +15,7 @@ use Rattle.bits.proofs.Tables.{next-room, length-tableAt, getD-tableAt}
 use Rattle.stored.specs.declared.fields.Rule.{Rule}
 use Rattle.stored.specs.declared.fields.Field.the-variants.{Value}
 use Rattle.stored.specs.Fields.{cursor, breaks, fieldUnder}
-use Rattle.stored.proofs.FieldReads.{Kept, field-kept, field-broken, fields-broken, fields-kept}
+use Rattle.stored.proofs.FieldReads.{field-kept, field-broken, fields-broken, fields-kept}
 use Rattle.stored.proofs.fields.read_fields.Statement.{statement}
 use Rattle.stored.proofs.fields.read_fields.Tie as tie
 

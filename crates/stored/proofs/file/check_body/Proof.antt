@@ -6,7 +6,7 @@ use native.Mathlib.Omega.{arith}
 use Rattle.rules.specs.declared.Counts.{Counts}
 use Rattle.rules.specs.Counts.{outOfRange}
 use Rattle.stored.specs.Fields.{handOn}
-use Rattle.stored.proofs.Acceptance.{HeaderAccepted, header-accepted}
+use Rattle.stored.proofs.Acceptance.{header-accepted}
 use Rattle.stored.proofs.BodyChecks.{Body, body-known, wrong-length, spare-bit, corner, body-passed}
 use Rattle.stored.proofs.file.check_body.Statement.{statement}
 use Rattle.stored.proofs.file.check_body.Tie as tie

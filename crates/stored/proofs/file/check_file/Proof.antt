@@ -4,7 +4,6 @@ use Prim.Native.Nat.{ℕ}
 use mathlib.Core.Path.{_≡_, sym, ap, ap₂, _∙_}
 use lib.ListN.{length}
 use borrow.Author.Tests.{lt-ltb, le-ltb}
-use Rattle.rules.specs.declared.Counts.{Counts}
 use Rattle.rules.specs.StoredForm.{headerOf, headerCut}
 use Rattle.stored.specs.Reading.{headOf, headerChecks, bodyChecks, fileChecks}
 use Rattle.stored.proofs.Acceptance.{orLater, header-later, head-read, head-refused}

@@ -1,6 +1,6 @@
 -- `stored::header::read_cell_counts` meets its contract: the reads that led to each return are those of `cellCounts`.
 use borrow.Author.Needs.{needs}
-use Prim.Native.Nat.{ℕ, _-_}
+use Prim.Native.Nat.{_-_}
 use mathlib.Core.Path.{_≡_, sym, ap, _∙_}
 use mathlib.Core.Bool.{cond, not}
 use native.Mathlib.Omega.{arith}
@@ -9,7 +9,7 @@ use borrow.Author.Tests.{eq-eqb, ne-eqb}
 use Rattle.rules.specs.Bits.{widthOf}
 use Rattle.stored.specs.declared.header.Head.the-variants as H
 use Rattle.stored.specs.Fields.{handOn, cellCounts}
-use Rattle.stored.proofs.FieldReads.{Kept, field-kept}
+use Rattle.stored.proofs.FieldReads.{field-kept}
 use Rattle.stored.proofs.header.read_cell_counts.Statement.{statement}
 use Rattle.stored.proofs.header.read_cell_counts.Tie as tie
 

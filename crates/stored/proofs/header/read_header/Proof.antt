@@ -2,10 +2,9 @@
 use borrow.Author.Needs.{needs}
 use mathlib.Core.Path.{_≡_, sym, ap, _∙_}
 use native.Mathlib.Omega.{arith}
-use borrow.Author.Tests.{ltb-false}
-use Rattle.stored.specs.Fields.{handOn, breaks}
-use Rattle.stored.proofs.FieldReads.{Kept, field-kept}
-use Rattle.stored.proofs.HeaderChecks.{headerReads, header-read, some-vertices}
+use Rattle.stored.specs.Fields.{handOn}
+use Rattle.stored.proofs.FieldReads.{field-kept}
+use Rattle.stored.proofs.HeaderChecks.{header-read, some-vertices}
 use Rattle.stored.proofs.header.read_header.Statement.{statement}
 use Rattle.stored.proofs.header.read_header.Tie as tie
 

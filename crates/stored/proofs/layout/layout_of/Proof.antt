@@ -3,7 +3,6 @@ use borrow.Author.Needs.{needs}
 use Prim.Native.Nat.{ℕ}
 use mathlib.Core.Path.{refl, ap}
 use native.Mathlib.Omega.{arith}
-use Rattle.rules.specs.declared.Counts.{Counts}
 use Rattle.rules.specs.Bits.{bytesFor}
 use Rattle.rules.specs.StoredForm.{Header, indexWidth, layout}
 use Rattle.soundness.proofs.Rounds.{in-range}
