@@ -8,6 +8,7 @@ pub mod cells;
 pub mod checks;
 pub mod entries;
 pub mod exact;
+pub mod generate;
 pub mod integer;
 pub mod listing;
 pub mod mesh;
