@@ -6,8 +6,11 @@ pub mod average;
 pub mod bracket;
 pub mod cells;
 pub mod checks;
+pub mod compare;
 pub mod entries;
 pub mod exact;
+#[cfg(mlca_linked)]
+pub mod ffi;
 pub mod generate;
 pub mod integer;
 pub mod listing;

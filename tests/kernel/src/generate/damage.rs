@@ -48,7 +48,7 @@ fn make_ragged(mesh: &mut Mesh, random: &mut Random) -> bool {
     if more || cells.is_empty() {
         cells.extend(vec![0; change]);
     } else {
-        cells.truncate(cells.len() - change);
+        cells.truncate(cells.len().saturating_sub(change));
     }
     true
 }
