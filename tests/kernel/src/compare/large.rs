@@ -19,15 +19,21 @@ fn blocks_and_points(hexes: usize, points: usize) -> Mesh {
     }
 }
 
+/// Many working numbers and nothing else: the checks can be quick, and an accepted mesh gets 11.
+fn working_numbers_only() -> Lent {
+    Lent { numbers32: vec![7; 8_000_000], ..Lent::default() }
+}
+
 /// Sizes at the limit. Greater scales add full-size calls.
 pub fn limits(comparison: &mut Comparison) {
-    let no_memory = Lent::default();
+    let memory = working_numbers_only();
     for points in [249_999, 250_000, 250_001] {
-        comparison.refine(&blocks_and_points(0, points), 0, &no_memory);
+        comparison.refine(&blocks_and_points(0, points), 0, &memory);
         comparison.write(&blocks_and_points(0, points), &[5; 20]);
     }
-    comparison.refine(&blocks_and_points(93_750, 250_000), 0, &no_memory);
-    comparison.refine(&blocks_and_points(93_751, 250_000), 0, &no_memory);
+    for hexes in [93_750, 93_751] {
+        comparison.refine(&blocks_and_points(hexes, 250_000), 0, &memory);
+    }
     finished_limits(comparison);
     stored_limits(comparison);
     if comparison.scale > 1 {
@@ -37,9 +43,9 @@ pub fn limits(comparison: &mut Comparison) {
 
 /// 31,250 hexes and 156,250 points: 1,000,000 vertices and 250,000 hexes after a round.
 fn finished_limits(comparison: &mut Comparison) {
-    let no_memory = Lent::default();
+    let memory = working_numbers_only();
     for (hexes, points) in [(31_250, 156_250), (31_250, 156_251), (31_251, 0)] {
-        comparison.refine(&blocks_and_points(hexes, points), 1, &no_memory);
+        comparison.refine(&blocks_and_points(hexes, points), 1, &memory);
     }
     let chain = |count: u32| Mesh {
         vertices: (0..3 * (count as i32 + 1)).collect(),
@@ -47,9 +53,9 @@ fn finished_limits(comparison: &mut Comparison) {
         ..Mesh::default()
     };
     for count in [976, 977] {
-        comparison.refine(&chain(count), 8, &no_memory);
+        comparison.refine(&chain(count), 8, &memory);
     }
-    comparison.refine(&shapes::star_of_segments(1000), 7, &no_memory);
+    comparison.refine(&shapes::star_of_segments(1000), 7, &memory);
 }
 
 /// The greatest files.
