@@ -95,10 +95,10 @@ static void split_hexes(struct round *r)
         for (int i = 0; i < 8; i++)
             raised(r, part[i] = corners[i], totals[i]);
         for (int e = 0; e < 12; e++)
-            part[8 + e] = edge_vertex(r, corners[PLAIN_HEX_EDGES[e][0]], corners[PLAIN_HEX_EDGES[e][1]]);
+            part[8 + e] = edge_vertex(r, corners[HEX_EDGES[e][0]], corners[HEX_EDGES[e][1]]);
         for (int f = 0; f < 6; f++)
-            part[20 + f] = face_vertex(r, corners[PLAIN_HEX_FACES[f][0]], corners[PLAIN_HEX_FACES[f][1]],
-                                       corners[PLAIN_HEX_FACES[f][2]], corners[PLAIN_HEX_FACES[f][3]]);
+            part[20 + f] = face_vertex(r, corners[HEX_FACES[f][0]], corners[HEX_FACES[f][1]],
+                                       corners[HEX_FACES[f][2]], corners[HEX_FACES[f][3]]);
         part[26] = r->first_hex + (uint32_t)number;
         for (int i = 0; i < 64; i++)
             children[i] = part[HEX_CHILDREN[i / 8][i % 8]];
@@ -113,9 +113,9 @@ static void split_hexes(struct round *r)
         for (int i = 0; i < 8; i++)
             add(r, part[i], HEX, 1, totals[i]);
         for (int e = 0; e < 12; e++)
-            add_of(r, part[8 + e], HEX, totals, PLAIN_HEX_EDGES[e], 2);
+            add_of(r, part[8 + e], HEX, totals, HEX_EDGES[e], 2);
         for (int f = 0; f < 6; f++)
-            add_of(r, part[20 + f], HEX, totals, PLAIN_HEX_FACES[f], 4);
+            add_of(r, part[20 + f], HEX, totals, HEX_FACES[f], 4);
         add_of(r, part[26], HEX, totals, all, 8);
     }
 }
@@ -144,7 +144,7 @@ static void split_quads(struct round *r)
         for (int i = 0; i < 4; i++)
             add(r, part[i], QUAD, 1, totals[i]);
         for (int e = 0; e < 4; e++)
-            add_of(r, part[4 + e], QUAD, totals, PLAIN_QUAD_EDGES[e], 2);
+            add_of(r, part[4 + e], QUAD, totals, QUAD_EDGES[e], 2);
         add_of(r, part[8], QUAD, totals, all, 4);
     }
 }

@@ -60,9 +60,14 @@ static inline bool is_far(int32_t coordinate)
     return coordinate < LEAST_COORDINATE || coordinate > GREATEST_COORDINATE;
 }
 
-extern const uint8_t PLAIN_HEX_EDGES[12][2];
-extern const uint8_t PLAIN_HEX_FACES[6][4];
-extern const uint8_t PLAIN_QUAD_EDGES[4][2];
+/* The parts of a cell (document 01, "The mesh"); not every file uses all of them. */
+#define PART_TABLE static const uint8_t __attribute__((unused))
+
+PART_TABLE HEX_EDGES[12][2] = { { 0, 1 }, { 1, 2 }, { 2, 3 }, { 3, 0 }, { 4, 5 }, { 5, 6 },
+                                { 6, 7 }, { 7, 4 }, { 0, 4 }, { 1, 5 }, { 2, 6 }, { 3, 7 } };
+PART_TABLE HEX_FACES[6][4] = { { 0, 1, 2, 3 }, { 4, 5, 6, 7 }, { 0, 1, 5, 4 },
+                               { 1, 2, 6, 5 }, { 2, 3, 7, 6 }, { 3, 0, 4, 7 } };
+PART_TABLE QUAD_EDGES[4][2] = { { 0, 1 }, { 1, 2 }, { 2, 3 }, { 3, 0 } };
 
 /* Refusals 1 to 4, or 0. */
 uint32_t plain_check_tables(const struct tables *mesh);

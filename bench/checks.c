@@ -6,12 +6,6 @@
 /* Where less is lent, this much of the stack serves instead. */
 #define LOCAL_NUMBERS 4096
 
-const uint8_t PLAIN_HEX_EDGES[12][2] = { { 0, 1 }, { 1, 2 }, { 2, 3 }, { 3, 0 }, { 4, 5 }, { 5, 6 },
-                                   { 6, 7 }, { 7, 4 }, { 0, 4 }, { 1, 5 }, { 2, 6 }, { 3, 7 } };
-const uint8_t PLAIN_HEX_FACES[6][4] = { { 0, 1, 2, 3 }, { 4, 5, 6, 7 }, { 0, 1, 5, 4 },
-                                  { 1, 2, 6, 5 }, { 2, 3, 7, 6 }, { 3, 0, 4, 7 } };
-const uint8_t PLAIN_QUAD_EDGES[4][2] = { { 0, 1 }, { 1, 2 }, { 2, 3 }, { 3, 0 } };
-
 static bool has_ragged_table(const struct tables *m)
 {
     return m->vertices_len % 3 || m->cells_len[HEX] % 8 || m->cells_len[QUAD] % 4 || m->cells_len[SEGMENT] % 2;
@@ -130,7 +124,7 @@ static enum outcome sweep_faces(const struct tables *m, struct part part, struct
     enum outcome outcome = PASSED;
     for (size_t at = 0; at < m->cells_len[HEX] && outcome == PASSED; at += 8)
         for (int f = 0; f < 6 && outcome == PASSED; f++)
-            outcome = sweep_face(m->cells[HEX] + at, PLAIN_HEX_FACES[f], part, keys);
+            outcome = sweep_face(m->cells[HEX] + at, HEX_FACES[f], part, keys);
     for (size_t at = 0; at < m->cells_len[QUAD] && outcome == PASSED; at += 4)
         outcome = sweep_face(m->cells[QUAD] + at, whole, part, keys);
     return outcome;
@@ -149,10 +143,10 @@ static enum outcome sweep_edges(const struct tables *m, struct part part, struct
     enum outcome outcome = PASSED;
     for (size_t at = 0; at < m->cells_len[HEX]; at += 8)
         for (int e = 0; e < 12; e++)
-            outcome |= sweep_edge(m->cells[HEX][at + PLAIN_HEX_EDGES[e][0]], m->cells[HEX][at + PLAIN_HEX_EDGES[e][1]], part, keys);
+            outcome |= sweep_edge(m->cells[HEX][at + HEX_EDGES[e][0]], m->cells[HEX][at + HEX_EDGES[e][1]], part, keys);
     for (size_t at = 0; at < m->cells_len[QUAD]; at += 4)
         for (int e = 0; e < 4; e++)
-            outcome |= sweep_edge(m->cells[QUAD][at + PLAIN_QUAD_EDGES[e][0]], m->cells[QUAD][at + PLAIN_QUAD_EDGES[e][1]], part, keys);
+            outcome |= sweep_edge(m->cells[QUAD][at + QUAD_EDGES[e][0]], m->cells[QUAD][at + QUAD_EDGES[e][1]], part, keys);
     for (size_t at = 0; at < m->cells_len[SEGMENT]; at += 2)
         outcome |= sweep_edge(m->cells[SEGMENT][at], m->cells[SEGMENT][at + 1], part, keys);
     return outcome;

@@ -58,13 +58,17 @@ fn gathered(mesh: &Mesh, round: &Round, share: impl Fn(i128, usize, &Holding) ->
 }
 
 fn rounds_each_centroid(mesh: &Mesh) -> Vec<i128> {
-    gathered(mesh, &Round::of(mesh), |total, dimension, holding| {
-        if dimension == holding.rank {
-            total.div_euclid(holding.divisor())
-        } else {
-            0
-        }
-    })
+    gathered(
+        mesh,
+        &Round::of(mesh),
+        |total, dimension, holding| {
+            if dimension == holding.rank {
+                total.div_euclid(holding.divisor())
+            } else {
+                0
+            }
+        },
+    )
 }
 
 /// Centroids of cells of every dimension, over the count of all of them.
@@ -91,7 +95,8 @@ fn matches_coordinates(mesh: &Mesh) -> Vec<i128> {
             kept.push(position);
         }
     }
-    let joined = round.split.tables.map(|table| table.iter().map(|&corner| number[corner as usize]).collect::<Vec<u32>>());
+    let joined =
+        round.split.tables.map(|table| table.iter().map(|&corner| number[corner as usize]).collect::<Vec<u32>>());
     let tables = [0, 1, 2, 3].map(|dimension: usize| joined[dimension].as_slice());
     let held: Vec<Holding> = holdings(kept.len(), tables).into_iter().flatten().collect();
     let sums = crate::average::sums(&kept.concat(), tables, &held);

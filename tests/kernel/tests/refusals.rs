@@ -70,14 +70,17 @@ fn corner_sets_are_compared_whatever_the_order() {
 
 #[test]
 fn a_face_may_start_anywhere_and_go_either_way() {
-    for (quad, refusal) in [([0, 1, 2, 3], 0), ([2, 1, 0, 3], 0), ([3, 0, 1, 2], 0), ([0, 2, 1, 3], 7), ([0, 1, 3, 2], 7)] {
+    for (quad, refusal) in
+        [([0, 1, 2, 3], 0), ([2, 1, 0, 3], 0), ([3, 0, 1, 2], 0), ([0, 2, 1, 3], 7), ([0, 1, 3, 2], 7)]
+    {
         assert_eq!(refine(&Mesh { quads: quad.to_vec(), ..p8() }, 1), refusal);
     }
 }
 
 #[test]
 fn the_limits_of_sizes_pass() {
-    let points = |count: usize| Mesh { vertices: vec![0; 3 * count], points: (0..count as u32).collect(), ..Mesh::default() };
+    let points =
+        |count: usize| Mesh { vertices: vec![0; 3 * count], points: (0..count as u32).collect(), ..Mesh::default() };
     assert_eq!(check_mesh(&points(250_000), 8), Ok(()));
     assert_eq!(check_mesh(&points(250_001), 8), Err(Refusal::WrongSize));
     let vertices = |count: usize| Mesh { vertices: vec![0; 3 * count], ..Mesh::default() };
@@ -127,8 +130,20 @@ fn reading_keeps_its_order() {
     };
     assert_eq!((read(&good, room), read(&good, none), read(&good[..12], room)), (0, 11, 13));
     assert_eq!(with(&|b| b[0] ^= 0x30), 14);
-    assert_eq!(with(&|b| { b[0] ^= 0x30; b.push(0) }), 14);
-    assert_eq!(with(&|b| { b.push(0); b[35] |= 1 }), 13);
+    assert_eq!(
+        with(&|b| {
+            b[0] ^= 0x30;
+            b.push(0)
+        }),
+        14
+    );
+    assert_eq!(
+        with(&|b| {
+            b.push(0);
+            b[35] |= 1
+        }),
+        13
+    );
     assert_eq!(with(&|b| b[35] |= 1), 16);
     assert_eq!(read(&header(1, 31, [0, 0, 0, 0, 0]), room), 2);
     assert_eq!(read(&header(1, 31, [1, 0, 0, 0, 250_001]), room), 2);
@@ -164,7 +179,8 @@ fn writing_checks_1_to_4_then_11() {
 
 #[test]
 fn the_c_path_reads_refines_and_writes() {
-    let refine = |mesh: &Mesh, rounds: u32, length: usize| Oracle.refine_stored(&encode(mesh), rounds, &mut vec![0; length]);
+    let refine =
+        |mesh: &Mesh, rounds: u32, length: usize| Oracle.refine_stored(&encode(mesh), rounds, &mut vec![0; length]);
     assert_eq!((refine(&p1(), 0, 36), refine(&p1(), 0, 35), refine(&p1(), 9, 0)), (36, -11, -9));
     assert_eq!((refine(&p8(), 1, 1000), refine(&p8(), 2, 10_000), refine(&p8(), 3, 10_000)), (357, 1867, -11));
     assert_eq!(refine(&on_axis(&vec![0; 1001]), 0, 10_000), -11);

@@ -129,9 +129,8 @@ fn different_buffer(wanted: &Lent, found: &Lent) -> Option<String> {
 /// Names the first table that differs, with the first place that does.
 fn different_table(which: &str, wanted: &Mesh, found: &Mesh) -> Option<String> {
     let first = wanted.vertices.iter().zip(&found.vertices).position(|(a, b)| a != b);
-    let vertices = first.map(|place| {
-        format!("{which}vertices: {} at {place}, not {}", found.vertices[place], wanted.vertices[place])
-    });
+    let vertices = first
+        .map(|place| format!("{which}vertices: {} at {place}, not {}", found.vertices[place], wanted.vertices[place]));
     let cells = DIMENSIONS.into_iter().zip(["hexes", "quads", "segments", "points"]).find_map(|(dimension, name)| {
         let (wanted, found) = (wanted.cells(dimension), found.cells(dimension));
         let place = wanted.iter().zip(found).position(|(a, b)| a != b)?;

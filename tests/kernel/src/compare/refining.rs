@@ -71,7 +71,8 @@ pub fn third_property(comparison: &mut Comparison) {
         let mesh = small_mesh(&mut random, 30);
         let rounds = (1..=3).rev().find(|&rounds| finished_counts(&mesh, rounds)[0] <= 900).unwrap_or(0);
         let stages: Vec<Mesh> = (0..=rounds).map(|rounds| written(comparison, &mesh, rounds)).collect();
-        let problem = if stages[0] == mesh { History::of(&stages).check().err() } else { Some("changes it in 0 rounds".into()) };
+        let problem =
+            if stages[0] == mesh { History::of(&stages).check().err() } else { Some("changes it in 0 rounds".into()) };
         comparison.tally.judge(0, problem, || format!("third property, {rounds} rounds of {mesh:?}"));
     }
 }

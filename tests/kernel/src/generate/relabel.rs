@@ -4,8 +4,7 @@ use crate::mesh::{Mesh, DIMENSIONS};
 use crate::random::Random;
 
 /// Turns and mirrorings of a hex that generate all 48: round its axis, upside down, about another axis.
-const HEX_MOVES: [&[usize]; 3] =
-    [&[1, 2, 3, 0, 5, 6, 7, 4], &[4, 5, 6, 7, 0, 1, 2, 3], &[0, 1, 5, 4, 3, 2, 6, 7]];
+const HEX_MOVES: [&[usize]; 3] = [&[1, 2, 3, 0, 5, 6, 7, 4], &[4, 5, 6, 7, 0, 1, 2, 3], &[0, 1, 5, 4, 3, 2, 6, 7]];
 
 const QUAD_MOVES: [&[usize]; 2] = [&[1, 2, 3, 0], &[0, 3, 2, 1]];
 

@@ -54,7 +54,7 @@ pub fn fan_of_quads(count: usize) -> Mesh {
 pub fn star_of_segments(count: usize) -> Mesh {
     let mut mesh = Mesh { vertices: vec![0, 0, 0], ..Mesh::default() };
     for ray in 0..count as i32 {
-        let end = mesh.add_vertex([16 - 5 * ray, 3 * ray, 8 - ray * ray]);
+        let end = mesh.add_vertex([16 - 5 * ray, 3 * ray, 8 - ray % 100 * ray]);
         mesh.segments.extend([0, end]);
     }
     mesh

@@ -21,8 +21,7 @@ fn hold_loose(mesh: &mut Mesh) {
 pub fn segment_network(random: &mut Random) -> Mesh {
     let count = 2 + random.below(10);
     let mut mesh = scattered(count, random);
-    let mut pairs: Vec<[u32; 2]> =
-        (0..count as u32).flat_map(|high| (0..high).map(move |low| [high, low])).collect();
+    let mut pairs: Vec<[u32; 2]> = (0..count as u32).flat_map(|high| (0..high).map(move |low| [high, low])).collect();
     random.shuffle(&mut pairs);
     pairs.truncate(1 + random.below(2 * count));
     mesh.segments = pairs.concat();
