@@ -121,7 +121,7 @@ mod tests {
     #[test]
     fn agrees_with_whole_numbers_of_the_machine() {
         let mut random = Random::new(2);
-        let mut draw = || i128::from(random.next() as i64) >> random.below(63);
+        let mut draw = || i128::from(random.bits() as i64) >> random.below(63);
         for _ in 0..2000 {
             let (a, b) = (draw(), draw());
             let mut sum = Integer::from_i128(a);

@@ -1,9 +1,12 @@
 //! A kernel for document 01 that was written separately, from the paper alone: an oracle for the proved one.
 //! It is made to be read against the paper, and not to be fast.
 
+#![allow(clippy::manual_is_multiple_of)]
+
 pub mod answers;
 pub mod average;
 pub mod bracket;
+pub mod catalogue;
 pub mod cells;
 pub mod checks;
 pub mod compare;

@@ -92,8 +92,8 @@ mod tests {
     fn agrees_with_whole_numbers_of_the_machine() {
         let mut random = Random::new(1);
         for _ in 0..2000 {
-            let a = u128::from(random.next()) >> random.below(64);
-            let b = u128::from(random.next()) >> random.below(64);
+            let a = u128::from(random.bits()) >> random.below(64);
+            let b = u128::from(random.bits()) >> random.below(64);
             assert_eq!(natural(a).plus(&natural(b)), natural(a + b));
             assert_eq!(natural(a).times(&natural(b)), natural(a * b));
             assert_eq!(natural(a.max(b)).minus(&natural(a.min(b))), natural(a.max(b) - a.min(b)));

@@ -1,5 +1,6 @@
 //! Holds the kernel in libmlca.a against the oracle. The last line is `N passed, M failed`.
-//! MLCA_SCALE multiplies the number of cases; arguments choose groups by a part of their names.
+//! MLCA_SCALE multiplies the number of cases; MLCA_TRACE, set to anything, names each call before it is made;
+//! arguments choose groups by a part of their names.
 
 #[cfg(not(mlca_linked))]
 fn main() {
@@ -14,6 +15,7 @@ fn main() {
     let scale = std::env::var("MLCA_SCALE").map_or(1, |text| text.parse().expect("MLCA_SCALE is a whole number"));
     let chosen: Vec<String> = std::env::args().skip(1).collect();
     let mut comparison = Comparison::new(&oracle::ffi::Archive, scale);
+    comparison.trace = std::env::var_os("MLCA_TRACE").is_some();
     for (name, run) in GROUPS {
         if !chosen.is_empty() && !chosen.iter().any(|part| name.contains(part.as_str())) {
             continue;

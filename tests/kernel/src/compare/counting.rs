@@ -41,7 +41,7 @@ pub fn millimetres(comparison: &mut Comparison) {
     }
     let mut random = Random::new(52);
     for _ in 0..2000 * comparison.scale {
-        let any = [0; 3].map(|_| random.next() as i32 >> random.below(6));
+        let any = [0; 3].map(|_| random.bits() as i32 >> random.below(6));
         comparison.millimetres(any);
     }
 }

@@ -4,7 +4,7 @@ use super::Comparison;
 use crate::checks::check_refining;
 use crate::entries::Lent;
 use crate::generate::{lattice, lent, relabel, shapes, wild};
-use crate::mesh::Mesh;
+use crate::mesh::{Mesh, GREATEST_COORDINATE, LEAST_COORDINATE};
 use crate::random::Random;
 use crate::stored::encode;
 
@@ -36,8 +36,29 @@ pub fn limits(comparison: &mut Comparison) {
     }
     finished_limits(comparison);
     stored_limits(comparison);
+    greatest_sums(comparison);
+    accepted(comparison, &blocks_and_points(31_250, 156_250), 1);
     if comparison.scale > 1 {
         full_size(comparison);
+    }
+}
+
+/// A call with enough memory, and the irregular count of the same mesh.
+fn accepted(comparison: &mut Comparison, mesh: &Mesh, rounds: u32) {
+    let mut random = Random::new(92);
+    let finished = check_refining(mesh, rounds).expect("within the limits");
+    comparison.refine(mesh, rounds, &lent::enough(finished, &mut random));
+    comparison.irregular_count(mesh, &lent::noisy_numbers(8 * finished[0], &mut random));
+}
+
+/// The greatest valences at the limits of range: sums of the greatest size.
+fn greatest_sums(comparison: &mut Comparison) {
+    let shapes = [shapes::star_of_segments(125_000), shapes::fan_of_quads(20_000), shapes::blocks_round_a_face(10_000)];
+    for mut mesh in shapes {
+        for (place, coordinate) in mesh.vertices.iter_mut().enumerate() {
+            *coordinate = [LEAST_COORDINATE, GREATEST_COORDINATE, LEAST_COORDINATE + (place % 2) as i32][place % 3];
+        }
+        accepted(comparison, &mesh, 1);
     }
 }
 
@@ -69,24 +90,18 @@ fn stored_limits(comparison: &mut Comparison) {
     comparison.write(&mesh, &vec![1; bytes.len() + 1]);
 }
 
+/// Calls of full size, and crowds of hexes on few vertices.
 fn full_size(comparison: &mut Comparison) {
     let mut random = Random::new(91);
-    let mut grid = lattice::blocks([32, 31, 31], || true);
-    let crowded = wild::crowded(20_000, 40, &mut random);
-    let cases = [
-        (blocks_and_points(31_250, 156_250), 1),
-        (grid.clone(), 1),
-        (lattice::blocks([7, 8, 8], || true), 3),
-        (shapes::blocks_round_a_face(31_250), 1),
-        (shapes::fan_of_quads(60_000), 1),
-        (shapes::star_of_segments(120_000), 1),
-        (grid.clone(), 0),
-        (crowded, 0),
-    ];
-    relabel::relabel(&mut grid, &mut random);
-    for (mesh, rounds) in cases.iter().chain(&[(grid, 1)]) {
-        let finished = check_refining(mesh, *rounds).expect("within the limits");
-        comparison.refine(mesh, *rounds, &lent::enough(finished, &mut random));
-        comparison.irregular_count(mesh, &lent::noisy_numbers(8 * finished[0], &mut random));
-    }
+    let grid = lattice::blocks([32, 31, 31], || true);
+    let mut relabelled = grid.clone();
+    relabel::relabel(&mut relabelled, &mut random);
+    accepted(comparison, &grid, 1);
+    accepted(comparison, &grid, 0);
+    accepted(comparison, &relabelled, 1);
+    accepted(comparison, &lattice::blocks([7, 8, 8], || true), 3);
+    accepted(comparison, &shapes::blocks_round_a_face(31_250), 1);
+    accepted(comparison, &shapes::fan_of_quads(60_000), 1);
+    accepted(comparison, &blocks_and_points(0, 250_000), 8);
+    accepted(comparison, &wild::crowded(20_000, 40, &mut random), 0);
 }

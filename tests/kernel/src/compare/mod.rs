@@ -2,14 +2,18 @@
 
 pub mod c_path;
 pub mod counting;
+pub mod difference;
 pub mod large;
+pub mod listing;
 pub mod memory;
 pub mod refining;
 pub mod stored;
 pub mod tally;
 
+use crate::answers::Position;
 use crate::entries::{Kernel, Lent, Oracle};
-use crate::mesh::{Mesh, DIMENSIONS};
+use crate::mesh::Mesh;
+use difference::{digits, outline, Answer, Memory};
 use tally::Tally;
 
 /// One kernel under test and what has been found so far.
@@ -18,10 +22,15 @@ pub struct Comparison<'a> {
     pub tally: Tally,
     /// How many times the usual number of cases is run.
     pub scale: u64,
+    /// Each call is named before it is made, to find one that does not come back.
+    pub trace: bool,
 }
 
+/// Runs the cases of one group.
+pub type Group = fn(&mut Comparison);
+
 /// The groups of cases by name.
-pub const GROUPS: [(&str, fn(&mut Comparison)); 13] = [
+pub const GROUPS: [(&str, Group); 13] = [
     ("samples", refining::samples),
     ("valid meshes", refining::valid_meshes),
     ("damaged meshes", refining::damaged_meshes),
@@ -39,115 +48,66 @@ pub const GROUPS: [(&str, fn(&mut Comparison)); 13] = [
 
 impl<'a> Comparison<'a> {
     pub fn new(kernel: &'a dyn Kernel, scale: u64) -> Comparison<'a> {
-        Comparison { kernel, tally: Tally::default(), scale }
+        Comparison { kernel, tally: Tally::default(), scale, trace: false }
     }
 
-    /// Refines by both kernels in memory that starts alike.
+    /// Makes one call of both kernels in memory that starts alike; answers and memory must agree.
+    fn both<A: Answer, M: Memory>(
+        &mut self,
+        name: impl Fn() -> String,
+        memory: &M,
+        call: impl Fn(&dyn Kernel, &mut M) -> A,
+    ) {
+        if self.trace {
+            eprintln!("{}", name());
+        }
+        let (mut wanted_memory, mut found_memory) = (memory.clone(), memory.clone());
+        let wanted = call(&Oracle, &mut wanted_memory);
+        let found = call(self.kernel, &mut found_memory);
+        let problem = if found != wanted {
+            Some(format!("answers {found:?}, not {wanted:?}"))
+        } else {
+            M::difference(&wanted_memory, &found_memory)
+        };
+        self.tally.judge(wanted.refusal(), problem, name);
+    }
+
     pub fn refine(&mut self, mesh: &Mesh, rounds: u32, lent: &Lent) {
-        let (mut wanted_memory, mut memory) = (lent.clone(), lent.clone());
-        let wanted = Oracle.refine(mesh, rounds, &mut wanted_memory);
-        let answer = self.kernel.refine(mesh, rounds, &mut memory);
-        let problem = (answer != wanted)
-            .then(|| format!("answers {answer:?}, not {wanted:?}"))
-            .or_else(|| different_buffer(&wanted_memory, &memory));
-        let call = || format!("refining {rounds} rounds of {}", outline(mesh));
-        self.tally.judge(wanted.refusal, problem, call);
+        let name = || format!("refining {rounds} rounds of {}", outline(mesh));
+        self.both(name, lent, |kernel, memory| kernel.refine(mesh, rounds, memory));
     }
 
     pub fn irregular_count(&mut self, mesh: &Mesh, working: &[u32]) {
-        let mut memory = working.to_vec();
-        let wanted = Oracle.irregular_count(mesh, &mut working.to_vec());
-        let answer = self.kernel.irregular_count(mesh, &mut memory);
-        let problem = (answer != wanted)
-            .then(|| format!("answers {answer:?}, not {wanted:?}"))
-            .or_else(|| memory.iter().any(|&number| number != 0).then(|| "leaves working numbers not zero".into()));
-        let call = || format!("irregular count, {} working numbers, of {}", working.len(), outline(mesh));
-        self.tally.judge(wanted.refusal, problem, call);
+        let name = || format!("irregular count, {} working numbers, of {}", working.len(), outline(mesh));
+        self.both(name, &working.to_vec(), |kernel, memory| kernel.irregular_count(mesh, memory));
     }
 
     pub fn read(&mut self, bytes: &[u8], tables: &Mesh) {
-        let (mut wanted_tables, mut memory) = (tables.clone(), tables.clone());
-        let wanted = Oracle.read(bytes, &mut wanted_tables);
-        let answer = self.kernel.read(bytes, &mut memory);
-        let problem = (answer != wanted)
-            .then(|| format!("answers {answer:?}, not {wanted:?}"))
-            .or_else(|| different_table("", &wanted_tables, &memory));
-        let call = || format!("reading {} bytes into places {:?}: {}", bytes.len(), tables.places(), digits(bytes));
-        self.tally.judge(wanted.refusal, problem, call);
+        let name = || format!("reading into places {:?} of {}", tables.places(), digits(bytes));
+        self.both(name, tables, |kernel, memory| kernel.read(bytes, memory));
     }
 
     pub fn write(&mut self, mesh: &Mesh, buffer: &[u8]) {
-        let (mut wanted_buffer, mut memory) = (buffer.to_vec(), buffer.to_vec());
-        let wanted = Oracle.write(mesh, &mut wanted_buffer);
-        let answer = self.kernel.write(mesh, &mut memory);
-        let problem = (answer != wanted)
-            .then(|| format!("answers {answer:?}, not {wanted:?}"))
-            .or_else(|| (memory != wanted_buffer).then(|| "leaves other bytes".into()));
-        let call = || format!("writing into {} bytes {}", buffer.len(), outline(mesh));
-        self.tally.judge(wanted.refusal, problem, call);
+        let name = || format!("writing into {} bytes of {}", buffer.len(), outline(mesh));
+        self.both(name, &buffer.to_vec(), |kernel, memory| kernel.write(mesh, memory));
     }
 
     pub fn refine_stored(&mut self, stored: &[u8], rounds: u32, result: &[u8]) {
-        let (mut wanted_result, mut memory) = (result.to_vec(), result.to_vec());
-        let wanted = Oracle.refine_stored(stored, rounds, &mut wanted_result);
-        let answer = self.kernel.refine_stored(stored, rounds, &mut memory);
-        let problem = (answer != wanted)
-            .then(|| format!("answers {answer}, not {wanted}"))
-            .or_else(|| (memory != wanted_result).then(|| "leaves other bytes".into()));
-        let call = || format!("C path, {rounds} rounds, {} bytes of room: {}", result.len(), digits(stored));
-        self.tally.judge((-wanted).max(0) as u32, problem, call);
+        let name = || format!("C path, {rounds} rounds, room {}, of {}", result.len(), digits(stored));
+        self.both(name, &result.to_vec(), |kernel, memory| kernel.refine_stored(stored, rounds, memory));
     }
 
     pub fn irregular_count_stored(&mut self, stored: &[u8]) {
-        let wanted = Oracle.irregular_count_stored(stored);
-        let answer = self.kernel.irregular_count_stored(stored);
-        let problem = (answer != wanted).then(|| format!("answers {answer}, not {wanted}"));
-        self.tally.judge((-wanted).max(0) as u32, problem, || format!("C path, irregular count: {}", digits(stored)));
+        let name = || format!("C path, irregular count of {}", digits(stored));
+        self.both(name, &(), |kernel, _| kernel.irregular_count_stored(stored));
     }
 
     pub fn millimetres(&mut self, coordinates: [i32; 3]) {
-        let wanted = Oracle.millimetres(coordinates);
-        let answer = self.kernel.millimetres(coordinates);
-        let bits = |answer: crate::answers::MillimetresAnswer| {
-            [answer.position.x, answer.position.y, answer.position.z].map(f64::to_bits)
-        };
-        let same = answer.refusal == wanted.refusal && bits(answer) == bits(wanted);
-        let problem = (!same).then(|| format!("answers {answer:?}, not {wanted:?}"));
-        self.tally.judge(wanted.refusal, problem, || format!("millimetres of {coordinates:?}"));
+        let name = || format!("millimetres of {coordinates:?}");
+        self.both(name, &(), |kernel, _| {
+            let answer = kernel.millimetres(coordinates);
+            let Position { x, y, z } = answer.position;
+            (answer.refusal, [x, y, z].map(f64::to_bits))
+        });
     }
-}
-
-fn different_buffer(wanted: &Lent, found: &Lent) -> Option<String> {
-    let numbers = (wanted.numbers32 != found.numbers32).then(|| "leaves 32-bit numbers not zero".to_string());
-    let wide = (wanted.numbers64 != found.numbers64).then(|| "leaves 64-bit numbers not zero".to_string());
-    different_table("output ", &wanted.output, &found.output)
-        .or_else(|| different_table("working ", &wanted.working, &found.working))
-        .or(numbers)
-        .or(wide)
-}
-
-/// Names the first table that differs, with the first place that does.
-fn different_table(which: &str, wanted: &Mesh, found: &Mesh) -> Option<String> {
-    let first = wanted.vertices.iter().zip(&found.vertices).position(|(a, b)| a != b);
-    let vertices = first
-        .map(|place| format!("{which}vertices: {} at {place}, not {}", found.vertices[place], wanted.vertices[place]));
-    let cells = DIMENSIONS.into_iter().zip(["hexes", "quads", "segments", "points"]).find_map(|(dimension, name)| {
-        let (wanted, found) = (wanted.cells(dimension), found.cells(dimension));
-        let place = wanted.iter().zip(found).position(|(a, b)| a != b)?;
-        Some(format!("{which}{name}: {} at {place}, not {}", found[place], wanted[place]))
-    });
-    vertices.or(cells)
-}
-
-/// A small mesh in full, a large one by its lengths.
-fn outline(mesh: &Mesh) -> String {
-    if mesh.vertices.len() + mesh.hexes.len() + mesh.quads.len() + mesh.segments.len() < 300 {
-        return format!("{mesh:?}");
-    }
-    format!("a mesh with places {:?}", mesh.places())
-}
-
-fn digits(bytes: &[u8]) -> String {
-    let shown: String = bytes.iter().take(120).map(|byte| format!("{byte:02x}")).collect();
-    format!("{shown}{}", if bytes.len() > 120 { ".." } else { "" })
 }

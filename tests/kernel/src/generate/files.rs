@@ -59,7 +59,7 @@ fn change_count(bytes: &mut [u8], random: &mut Random) {
 
 /// Random bytes; half of them begin with form number 1.
 fn noise(random: &mut Random) -> Vec<u8> {
-    let mut bytes: Vec<u8> = (0..random.below(60)).map(|_| random.next() as u8).collect();
+    let mut bytes: Vec<u8> = (0..random.below(60)).map(|_| random.bits() as u8).collect();
     if let Some(first) = bytes.first_mut().filter(|_| random.one_in(2)) {
         *first = *first & 15 | 16;
     }

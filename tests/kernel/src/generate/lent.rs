@@ -19,22 +19,22 @@ pub fn with_lengths(lengths: [usize; BUFFERS], random: &mut Random) -> Lent {
         output: noisy_tables(lengths[..5].try_into().expect("five"), random),
         working: noisy_tables(lengths[5..10].try_into().expect("five"), random),
         numbers32: noisy_numbers(lengths[10], random),
-        numbers64: (0..lengths[11]).map(|_| random.next()).collect(),
+        numbers64: (0..lengths[11]).map(|_| random.bits()).collect(),
     }
 }
 
 pub fn noisy_numbers(length: usize, random: &mut Random) -> Vec<u32> {
-    (0..length).map(|_| random.next() as u32).collect()
+    (0..length).map(|_| random.bits() as u32).collect()
 }
 
 pub fn noisy_bytes(length: usize, random: &mut Random) -> Vec<u8> {
-    (0..length).map(|_| random.next() as u8).collect()
+    (0..length).map(|_| random.bits() as u8).collect()
 }
 
 /// Tables of the given lengths in numbers, not in entries.
 pub fn noisy_tables(lengths: [usize; 5], random: &mut Random) -> Mesh {
     Mesh {
-        vertices: (0..lengths[0]).map(|_| random.next() as i32).collect(),
+        vertices: (0..lengths[0]).map(|_| random.bits() as i32).collect(),
         hexes: noisy_numbers(lengths[1], random),
         quads: noisy_numbers(lengths[2], random),
         segments: noisy_numbers(lengths[3], random),
