@@ -39,17 +39,22 @@ fn width_samples() -> Vec<Sample> {
         sample("p11-2", p11(2), "P11: 2 vertices, width 1"),
         sample("p11-3", p11(3), "P11: 3 vertices, width 2"),
         sample("p11-256", p11(256), "P11: 256 vertices, width 8"),
-        sample("p11-257", p11(257), "P11: 257 vertices, width 9; 257 points are too many for the listing (refused 11)"),
+        sample("p11-257", p11(257), "P11: 257 vertices, width 9; too many points for the listing (refused 11)"),
     ]
 }
 
 fn further_samples() -> Vec<Sample> {
     vec![
         sample("p12", p12(), "P12: the 3 by 3 grid of 000, section 3.2, 1 mm apart: ranks 0 1 0 1 2 1 0 1 0"),
-        sample("uneven-segments", uneven_segments(), "segments from 0 to 1 and 7; after 1 round vertex 0 is at 1, unless midpoints are rounded"),
-        sample("touching-segments", touching_segments(), "two segments 0 to 8 that share no vertex; after 1 round 6 vertices, unless equal places are joined"),
-        sample("hub", hub(5, 20_480.0, 10_240), "five blocks round one edge, 20 mm in radius and 10 mm high: an edge of valence 5"),
-        sample("bracket", bracket(), "a bracket in blocks of 10 mm: foot with a bolt hole, upright wall; machined faces as quads, parting line as segments, datum points"),
+        sample("uneven-segments", uneven_segments(), "segments from 0 to 1 and 7; after 1 round vertex 0 is at 1"),
+        sample("touching-segments", touching_segments(), "two segments 0 to 8 that share no vertex; 6 after 1 round"),
+        sample("hub", hub(5, 20_480.0, 10_240), "five blocks round one edge, 20 mm in radius and 10 mm high"),
+        sample(
+            "bracket",
+            bracket(),
+            "a casting in blocks of 10 mm: a foot with a bolt hole and an upright wall; \
+             machined faces as quads, the parting line as segments, datum points",
+        ),
     ]
 }
 

@@ -94,9 +94,9 @@ impl<'a> History<'a> {
         self.rounds.iter().fold(first, |exact, round| exact.after(round))
     }
 
-    /// Every written coordinate is the floor of its round's mean, and the third property holds of the last mesh.
+    /// Every mesh is a round of the one before, and the third property holds of the last.
     pub fn check(&self) -> Result<(), String> {
-        self.check_floors()?;
+        self.check_rounds()?;
         let (exact, clean, bounds) = (self.exact(), self.undisturbed(), bounding_box(&self.stages[0]));
         for (place, &written) in self.last().vertices.iter().enumerate() {
             let (vertex, axis) = (place / 3, place % 3);
@@ -118,12 +118,12 @@ impl<'a> History<'a> {
         Ok(())
     }
 
-    /// Each written coordinate leaves a remainder from 0 to the divisor less 1.
-    fn check_floors(&self) -> Result<(), String> {
+    /// The cells are the round's, and each written coordinate leaves a remainder from 0 to the divisor less 1.
+    fn check_rounds(&self) -> Result<(), String> {
         for (index, (round, fine)) in self.rounds.iter().zip(&self.stages[1..]).enumerate() {
             let places = round.sums.len();
-            if fine.vertices.len() != places {
-                return Err(format!("round {}: {} coordinates, not {places}", index + 1, fine.vertices.len()));
+            if fine.vertices.len() != places || fine.tables() != round.split.table_slices() {
+                return Err(format!("round {}: other counts or cells", index + 1));
             }
             for (place, &written) in fine.vertices.iter().enumerate() {
                 let divisor = round.holdings[place / 3].divisor();

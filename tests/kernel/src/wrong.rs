@@ -6,12 +6,13 @@ use crate::mesh::{corner_count, Mesh};
 /// A wrong round: from a sound mesh to the coordinates of the fine mesh.
 pub type WrongRound = fn(&Mesh) -> Vec<i128>;
 
-pub const WRONG_ROUNDS: [(&str, WrongRound); 5] = [
+pub const WRONG_ROUNDS: [(&str, WrongRound); 6] = [
     ("division that cuts toward zero", cuts_toward_zero),
     ("midpoints rounded before averaging", rounds_midpoints),
     ("each centroid divided by the valence and rounded before summing", rounds_each_centroid),
     ("valence over cells of all dimensions", counts_all_dimensions),
     ("midpoints matched by equal coordinates", matches_coordinates),
+    ("valence over cells of all dimensions, in the divisor alone", divides_by_all_dimensions),
 ];
 
 /// The right coordinates, for comparison.
@@ -71,14 +72,27 @@ fn rounds_each_centroid(mesh: &Mesh) -> Vec<i128> {
     )
 }
 
+/// How many fine cells of any dimension hold each fine vertex.
+fn all_holding(round: &Round) -> Vec<i128> {
+    let mut counts = vec![0; round.holdings.len()];
+    round.split.tables.iter().flatten().for_each(|&corner| counts[corner as usize] += 1);
+    counts
+}
+
 /// Centroids of cells of every dimension, over the count of all of them.
 fn counts_all_dimensions(mesh: &Mesh) -> Vec<i128> {
-    let round = Round::of(mesh);
-    let common = 64;
+    let (round, common) = (Round::of(mesh), 64);
     let sums = gathered(mesh, &round, |total, dimension, _| total * (common >> (3 + dimension)));
-    let mut counts = vec![0i128; round.holdings.len()];
-    round.split.tables.iter().flatten().for_each(|&corner| counts[corner as usize] += 1);
+    let counts = all_holding(&round);
     sums.iter().enumerate().map(|(place, sum)| sum.div_euclid(common * counts[place / 3])).collect()
+}
+
+/// The right sum, over the count of cells of every dimension.
+fn divides_by_all_dimensions(mesh: &Mesh) -> Vec<i128> {
+    let round = Round::of(mesh);
+    let counts = all_holding(&round);
+    let divisor = |vertex: usize| counts[vertex] << (3 + round.holdings[vertex].rank);
+    round.sums.iter().enumerate().map(|(place, sum)| sum.div_euclid(divisor(place / 3))).collect()
 }
 
 /// Joins fine vertices at one split position; the numbers of those that stay close up.

@@ -4,6 +4,7 @@ use oracle::average::{holdings, refined, stages, Holding, Round};
 use oracle::cells::{smallest_part, Part};
 use oracle::checks::{check_mesh, finished_counts};
 use oracle::generate::{any_mesh, relabel, small_mesh, valid_mesh};
+use oracle::integer::Fraction;
 use oracle::mesh::Mesh;
 use oracle::property::{bounding_box, History};
 use oracle::random::Random;
@@ -95,6 +96,43 @@ fn the_third_property_holds() {
         let mesh = small_mesh(&mut Random::new(6000 + case), 20);
         let rounds = (0..4).rev().find(|&n| finished_counts(&mesh, n)[0] < 1500).unwrap();
         assert_eq!(History::of(&stages(&mesh, rounds)).check(), Ok(()));
+    }
+}
+
+/// A coordinate is exact just when no feeding division can be named that left a remainder.
+#[test]
+fn named_remainders_agree_with_exactness() {
+    for case in 0..25 {
+        let mesh = small_mesh(&mut Random::new(6500 + case), 9);
+        let rounds = (0..3).rev().find(|&n| finished_counts(&mesh, n)[0] < 200).unwrap();
+        let meshes = stages(&mesh, rounds);
+        let (history, written) = (History::of(&meshes), &meshes[rounds as usize]);
+        let exact = history.exact();
+        for place in 0..written.vertices.len() {
+            let (vertex, axis) = (place / 3, place % 3);
+            let whole = Fraction::whole(i128::from(written.vertices[place]));
+            assert_eq!(history.first_left(vertex, axis).is_none(), exact.coordinate(vertex, axis) == whole);
+        }
+    }
+}
+
+/// Raising a vertex of the first mesh raises the exact coordinates that it feeds, and changes no other.
+#[test]
+fn feeding_is_dependence() {
+    for case in 0..25 {
+        let mut random = Random::new(6600 + case);
+        let mut mesh = small_mesh(&mut random, 12);
+        mesh.vertices.iter_mut().for_each(|coordinate| *coordinate /= 2);
+        let (vertex, meshes) = (random.below(mesh.vertex_count()), stages(&mesh, 1));
+        mesh.vertices[3 * vertex] += 5;
+        let raised = stages(&mesh, 1);
+        let (before, after) = (History::of(&meshes), History::of(&raised));
+        let (low, high) = (before.exact(), after.exact());
+        for fine in 0..raised[1].vertex_count() {
+            let fed = before.feeding(fine)[0].contains(&vertex);
+            assert_eq!(low.coordinate(fine, 0) < high.coordinate(fine, 0), fed);
+            assert!(low.coordinate(fine, 1) == high.coordinate(fine, 1));
+        }
     }
 }
 

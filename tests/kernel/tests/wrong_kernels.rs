@@ -27,6 +27,7 @@ fn rounded_centroids_differ_on_a_sample() {
 #[test]
 fn valence_over_all_dimensions_differs_on_p9() {
     assert!(differs(3, &p9()));
+    assert!(differs(5, &p9()));
 }
 
 #[test]
@@ -46,6 +47,6 @@ fn wrong_kernels_are_right_where_nothing_is_rounded_or_shared() {
 #[test]
 fn the_papers_samples_do_not_catch_every_wrong_kernel() {
     let samples = [p1(), p2(), p3(), p5(), p6(), p7(), p8(), p9(), p12()];
-    let caught: Vec<bool> = (0..5).map(|kernel| samples.iter().any(|mesh| differs(kernel, mesh))).collect();
-    assert_eq!(caught, [true, false, true, true, false]);
+    let caught: Vec<bool> = (0..6).map(|kernel| samples.iter().any(|mesh| differs(kernel, mesh))).collect();
+    assert_eq!(caught, [true, false, true, true, false, true]);
 }

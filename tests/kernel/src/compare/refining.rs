@@ -1,7 +1,7 @@
 //! Refining through the tables: samples, random valid and damaged meshes, the third property.
 
 use super::Comparison;
-use crate::checks::{check_refining, finished_counts};
+use crate::checks::{check_mesh, check_refining, finished_counts};
 use crate::entries::Lent;
 use crate::generate::{damage, lent, small_mesh, valid_mesh};
 use crate::mesh::Mesh;
@@ -71,10 +71,16 @@ pub fn third_property(comparison: &mut Comparison) {
         let mesh = small_mesh(&mut random, 30);
         let rounds = (1..=3).rev().find(|&rounds| finished_counts(&mesh, rounds)[0] <= 900).unwrap_or(0);
         let stages: Vec<Mesh> = (0..=rounds).map(|rounds| written(comparison, &mesh, rounds)).collect();
-        let problem =
-            if stages[0] == mesh { History::of(&stages).check().err() } else { Some("changes it in 0 rounds".into()) };
+        let problem = property_problem(&mesh, &stages);
         comparison.tally.judge(0, problem, || format!("third property, {rounds} rounds of {mesh:?}"));
     }
+}
+
+fn property_problem(first: &Mesh, stages: &[Mesh]) -> Option<String> {
+    if stages[0] != *first || stages.iter().any(|mesh| check_mesh(mesh, 8).is_err()) {
+        return Some("changes the mesh in 0 rounds or writes an unsound one".into());
+    }
+    History::of(stages).check().err()
 }
 
 /// What the kernel leaves in its output.
