@@ -86,15 +86,18 @@ static void fill_shell(struct tables *t, struct lattice l)
     for (uint32_t z = 0; z <= l.z; z += l.z)
         for (uint32_t y = 0; y < l.y; y++)
             for (uint32_t x = 0; x < l.x; x++)
-                quad = put_quad(quad, node(l, x, y, z), node(l, x + 1, y, z), node(l, x + 1, y + 1, z), node(l, x, y + 1, z));
+                quad = put_quad(quad, node(l, x, y, z), node(l, x + 1, y, z),
+                                node(l, x + 1, y + 1, z), node(l, x, y + 1, z));
     for (uint32_t y = 0; y <= l.y; y += l.y)
         for (uint32_t z = 0; z < l.z; z++)
             for (uint32_t x = 0; x < l.x; x++)
-                quad = put_quad(quad, node(l, x, y, z), node(l, x + 1, y, z), node(l, x + 1, y, z + 1), node(l, x, y, z + 1));
+                quad = put_quad(quad, node(l, x, y, z), node(l, x + 1, y, z),
+                                node(l, x + 1, y, z + 1), node(l, x, y, z + 1));
     for (uint32_t x = 0; x <= l.x; x += l.x)
         for (uint32_t z = 0; z < l.z; z++)
             for (uint32_t y = 0; y < l.y; y++)
-                quad = put_quad(quad, node(l, x, y, z), node(l, x, y + 1, z), node(l, x, y + 1, z + 1), node(l, x, y, z + 1));
+                quad = put_quad(quad, node(l, x, y, z), node(l, x, y + 1, z),
+                                node(l, x, y + 1, z + 1), node(l, x, y, z + 1));
 }
 
 struct tables grid(uint32_t x, uint32_t y, uint32_t z, bool with_shell)
