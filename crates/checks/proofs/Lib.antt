@@ -7,3 +7,9 @@ pub mod ByKind
 pub mod Slices
 -- WalkLaws: the walk of a mesh by number.
 pub mod WalkLaws
+-- CornerSets: when two cells have one corner set.
+pub mod CornerSets
+-- PlainParts: no edge and no face names a corner twice.
+pub mod PlainParts
+-- Counting: a loop that counts distinct keys.
+pub mod Counting

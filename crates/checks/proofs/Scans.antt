@@ -28,6 +28,9 @@ module _ {A : Type 0} where
     pub below : i ≤ length l
     pub rest : r ≡ f (drop i l)
 
+  pub scan-from : (f : List A → Bool) (l : List A) (i : ℕ) → i ≤ length l → Scanning f (f (drop i l)) l i
+  scan-from f l i h = record { below = h; rest = refl }
+
   pub scan-start : (f : List A → Bool) (l : List A) → Scanning f (f l) l 0
   scan-start f l = record { below = omega arith; rest = refl }
 
