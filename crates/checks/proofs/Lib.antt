@@ -13,3 +13,5 @@ pub mod CornerSets
 pub mod PlainParts
 -- Counting: a loop that counts distinct keys.
 pub mod Counting
+-- Mismatch: check 7 by number.
+pub mod Mismatch

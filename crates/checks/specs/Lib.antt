@@ -1,3 +1,5 @@
 -- What the contracts of the checks cite besides the rules.
 -- Walk: the parts that the walk of a mesh meets, table by table.
 pub mod Walk
+-- Held: a vertex is in a cell, by the tables.
+pub mod Held

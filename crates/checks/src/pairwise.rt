@@ -1,5 +1,6 @@
 // Checks 6 and 7 and the counts of edges and faces with no memory: each cell, each part is compared with each other one.
 use crate::cells;
+use crate::faces;
 use crate::parts;
 ghost use mathlib.Core.Path.{_≡_};
 ghost use mathlib.Core.Bool.{false};
@@ -7,10 +8,10 @@ ghost use mathlib.Core.List.{[], map};
 ghost use Prim.Native.Nat.{_+_, _<_};
 ghost use lib.Dec.{eqb};
 ghost use lib.ListN.{length, getD, take, drop};
-ghost use Rattle.rules.specs.Lists.{any, repeats, cut, keyOf, same, distinct};
+ghost use Rattle.rules.specs.Lists.{any, repeats, cut, upFrom, keyOf, same, distinct};
 ghost use Rattle.rules.specs.Mesh.{mesh, topology};
-ghost use Rattle.rules.specs.Refusals.{repeatedCorner, mismatched};
-ghost use Rattle.soundness.specs.Across.{across};
+ghost use Rattle.rules.specs.Refusals.{repeatedCorner, mismatched, mismatchedFace};
+ghost use Rattle.checks.specs.Held.{heldIn, isolatedIn};
 ghost use Rattle.checks.specs.Walk.{metIn};
 
 // Whether two cells have one corner set. Neither names a corner twice.
@@ -125,4 +126,83 @@ pub fn count_distinct(d: usize, hexes: &[u32], quads: &[u32], segments: &[u32]) 
         i += 1;
     }
     count
+}
+
+// Whether the faces i and j have one corner set and other neighbours in going round.
+fn is_mismatched(hexes: &[u32], quads: &[u32], segments: &[u32], i: usize, j: usize) -> bool
+    requires { ⌜ repeatedCorner (topology (mesh [] (now hexes) (now quads) (now segments) [])) ≡ false ⌝ }
+    requires { ⌜ (i < length (metIn 2 (now hexes) (now quads) (now segments))) × (j < length (metIn 2 (now hexes) (now quads) (now segments))) ⌝ }
+    ensures { λ r. let faces = metIn 2 (now (hexes .entry)) (now (quads .entry)) (now (segments .entry)) in
+        ⌜ r ≡ mismatched (getD faces i []) (getD faces j []) ⌝ }
+{
+    if !same_parts(2, hexes, quads, segments, i, j) {
+        return false;
+    }
+    let f = parts::part_at(2, hexes, quads, segments, i);
+    let g = parts::part_at(2, hexes, quads, segments, j);
+    faces::across(f) != faces::across(g)
+}
+
+// Whether some face does not match face i.
+fn has_mismatch(hexes: &[u32], quads: &[u32], segments: &[u32], i: usize) -> bool
+    requires { ⌜ repeatedCorner (topology (mesh [] (now hexes) (now quads) (now segments) [])) ≡ false ⌝ }
+    requires { ⌜ i < length (metIn 2 (now hexes) (now quads) (now segments)) ⌝ }
+    ensures { λ r. let faces = metIn 2 (now (hexes .entry)) (now (quads .entry)) (now (segments .entry)) in
+        ⌜ r ≡ any (mismatched (getD faces i [])) faces ⌝ }
+{
+    let n = parts::part_count(2, hexes, quads, segments);
+    let mut j = 0;
+    while j < n {
+        if is_mismatched(hexes, quads, segments, i, j) {
+            return true;
+        }
+        j += 1;
+    }
+    false
+}
+
+// Whether two faces have one corner set and different neighbours in going round.
+pub fn has_mismatched_face(hexes: &[u32], quads: &[u32], segments: &[u32]) -> bool
+    requires { ⌜ repeatedCorner (topology (mesh [] (now hexes) (now quads) (now segments) [])) ≡ false ⌝ }
+    ensures { λ r. ⌜ r ≡ mismatchedFace (topology (mesh [] (now (hexes .entry)) (now (quads .entry)) (now (segments .entry)) [])) ⌝ }
+{
+    let n = parts::part_count(2, hexes, quads, segments);
+    let mut i = 0;
+    while i < n {
+        if has_mismatch(hexes, quads, segments, i) {
+            return true;
+        }
+        i += 1;
+    }
+    false
+}
+
+// Whether vertex v is in a cell.
+fn is_held(hexes: &[u32], quads: &[u32], segments: &[u32], points: &[u32], v: u32) -> bool
+    ensures { λ r. ⌜ r ≡ heldIn (now (hexes .entry)) (now (quads .entry)) (now (segments .entry)) (now (points .entry)) v ⌝ }
+{
+    cells::has_number(v, hexes)
+        || (cells::has_number(v, quads)
+            || (cells::has_number(v, segments) || cells::has_number(v, points)))
+}
+
+// Whether one of n vertices is in no cell.
+pub fn has_isolated_vertex(
+    n: u32,
+    hexes: &[u32],
+    quads: &[u32],
+    segments: &[u32],
+    points: &[u32],
+) -> bool
+    ensures { λ r.
+        ⌜ r ≡ any (isolatedIn (now (hexes .entry)) (now (quads .entry)) (now (segments .entry)) (now (points .entry))) (upFrom 0 n) ⌝ }
+{
+    let mut v = 0;
+    while v < n {
+        if !is_held(hexes, quads, segments, points, v) {
+            return true;
+        }
+        v += 1;
+    }
+    false
 }

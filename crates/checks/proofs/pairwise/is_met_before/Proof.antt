@@ -36,9 +36,11 @@ tested : (c : tie.After-same-parts Inv-loop μ-loop) →
 tested c =
     let l = c .before in
     let s = l .before .before .before .before .before in
-    rw (getD-take (s .args .i) (map keyOf (ps s)) (l .before .loop .j) [] (l .loop-test .taken),
-    getD-map keyOf (ps s) (s .args .i) [] [] (s .pre .1 .1),
-    getD-map keyOf (ps s) (l .before .loop .j) [] [] (omega (arith, l .loop-test .taken, s .pre .1 .1)))
+    rw (
+      getD-take (s .args .i) (map keyOf (ps s)) (l .before .loop .j) [] (l .loop-test .taken),
+      getD-map keyOf (ps s) (s .args .i) [] [] (s .pre .1 .1),
+      getD-map keyOf (ps s) (l .before .loop .j) [] [] (omega (arith, l .loop-test .taken, s .pre .1 .1)),
+    )
     (c .same-parts .ensures)
 
 same-parts-requires : tie.Need-same-parts-requires Inv-loop μ-loop

@@ -19,10 +19,13 @@ same-corners-requires c κs =
     let b = c .before .before in
     let s = b .before .before .before .before .before in
     let a = s .args in
-    rw (b .before .part-at .ensures, b .part-at2 .ensures)
-    (size s (a .i) (s .pre .1 .1 .0) ∙ sym (size s (a .j) (s .pre .1 .1 .1)),
-    (part-plain (a .d) (s .pre .0 .0) (s .pre .0 .1) (a .hexes .now) (a .quads .now) (a .segments .now) (a .i) (s .pre .1 .1 .0) (s .pre .1 .0),
-    part-plain (a .d) (s .pre .0 .0) (s .pre .0 .1) (a .hexes .now) (a .quads .now) (a .segments .now) (a .j) (s .pre .1 .1 .1) (s .pre .1 .0)))
+    rw (b .before .part-at .ensures, b .part-at2 .ensures) (
+      size s (a .i) (s .pre .1 .1 .0) ∙ sym (size s (a .j) (s .pre .1 .1 .1)),
+      (
+        part-plain (a .d) (s .pre .0 .0) (s .pre .0 .1) (a .hexes .now) (a .quads .now) (a .segments .now) (a .i) (s .pre .1 .1 .0) (s .pre .1 .0),
+        part-plain (a .d) (s .pre .0 .0) (s .pre .0 .1) (a .hexes .now) (a .quads .now) (a .segments .now) (a .j) (s .pre .1 .1 .1) (s .pre .1 .0),
+      ),
+    )
 
 returns : tie.Need-returns
 returns c =
