@@ -36,7 +36,7 @@ ranked t v =
     (or-else P (dimension quad) (holding v (t .quads)) _ (quad, refl, refl) (hex, refl, refl))) in
     record { kind = p .0; rank = p .1; cells = p .2 }
 
--- a counted cell is a cell of that kind, and holds the vertex
+-- a counted cell is a cell of that kind
 pub counted-in : (t : Topology) (v : ℕ) (c : List ℕ) → In c (counted t v .cells) → In c (cellsOf t (ranked t v .kind))
 unfolding holding
 counted-in t v c i =

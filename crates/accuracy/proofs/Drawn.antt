@@ -115,19 +115,19 @@ drawn-exactly t s f l u =
             parent = p .parent;
             listed = p .listed;
             cell = r .cell;
-            born = subst (λ (cell : List ℕ). In cell (children (parts t) κ (p .parent))) (sym (p .is)) (map-in (childAt t κ (p .parent)) (whole κ) (p .number) (p .placed));
-            counts = r .listed;
+            child = subst (λ (cell : List ℕ). In cell (children (parts t) κ (p .parent))) (sym (p .is)) (map-in (childAt t κ (p .parent)) (whole κ) (p .number) (p .placed));
+            counted = r .listed;
             ranked = ranked (split t) f .rank;
             corner = child-drawn t s x (p .number) (p .placed) (r .at) (subst (λ (cell : List ℕ). In (r .at) cell) (p .is) (r .cornered)) u (r .drawn);
           },
       λ d.
-          let i = in-map (childAt t (d .kind) (d .parent)) (whole (d .kind)) (d .cell) (d .born) in
+          let i = in-map (childAt t (d .kind) (d .parent)) (whole (d .kind)) (d .cell) (d .child) in
           let x : CellOf t = record { kind = d .kind; cell = d .parent; listed = d .listed } in
           let g = drawn-child t s x (i .0) (i .1) u (d .corner) in
           subst (λ (us : List ℕ). In u us) (sym is)
           (through (parts t) (c .cells) u .1 (record {
             cell = d .cell;
-            listed = d .counts;
+            listed = d .counted;
             at = g .0;
             cornered = subst (λ (cell : List ℕ). In (g .0) cell) (sym (i .2)) (g .1);
             drawn = g .2;

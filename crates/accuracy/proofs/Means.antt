@@ -2,7 +2,7 @@
 use mathlib.Core.Path.{_≡_, refl, sym, ap, _∙_, subst}
 use mathlib.Core.Logic.{inl, inr}
 use mathlib.Core.List.{List, [], _∷_, map}
-use Prim.Native.Nat.{ℕ, _*_, _/_, _^_, _<_, zero-le}
+use Prim.Native.Nat.{ℕ, _*_, _/_, _^_, _<_}
 use native.Mathlib.Omega.{arith}
 use native.Mathlib.Nat.{mul-pos}
 use lib.Pow.{pow-pos}
@@ -13,13 +13,13 @@ use Rattle.rules.specs.Split.{parts, splitBy, split}
 use Rattle.rules.specs.Means.{Draw, Mean, noMean, meanOf}
 use Rattle.rules.specs.Averaging.{counted, rank, valence, eighths, cellDraws, meanAt, means}
 use Rattle.lists.specs.Membership.{In}
-use Rattle.lists.proofs.Membership.{in-map, in-upFrom, upFrom-in, getD-in, in-getD, getD-run}
+use Rattle.lists.proofs.Membership.{in-map, in-upFrom, getD-in, in-getD, getD-run}
 use Rattle.lists.proofs.Each.{each-in, each-concatMap}
 use Rattle.rounding.specs.Good.{weights, GoodDraw, GoodMean}
 use Rattle.rounding.proofs.Draws.{weights-concatMap}
 use Rattle.soundness.specs.Sound.{Sound}
 use Rattle.soundness.proofs.CellParts.{dimensions, placed, dimension-of, size}
-use Rattle.soundness.proofs.Cells.{in-part, length-part}
+use Rattle.soundness.proofs.Cells.{in-part, length-part, below-whole}
 use Rattle.soundness.proofs.SplitSound.{part-of, split-sound}
 use Rattle.accuracy.proofs.Counted.{ranked, counted-in, counted-some}
 
@@ -112,10 +112,10 @@ module _ (t : Topology) (s : Sound t) where
 
   -- a corner of a fine cell is the number of a part
   corner-part : (κ : Kind) (c : List ℕ) → In c (cellsOf (split t) κ) → (f : ℕ) → In f c → GoodPart (t .vertexCount) (getD (parts t) f [])
-  unfolding split splitBy whole
+  unfolding split splitBy
   corner-part κ c i f j =
       let p = in-getD c f 0 j in
-      let w : In (p .0) (whole κ) = upFrom-in 0 (corners κ) (p .0) zero-le (omega (arith, p .1, fine .sized κ c i)) in
+      let w = below-whole κ (p .0) (omega (arith, p .1, fine .sized κ c i)) in
       let l : f < length (parts t) = subst (λ (g : ℕ). g < length (parts t)) (p .2) (fine .known κ c i (p .0) w) in
       good-part t s (getD (parts t) f []) (getD-in (parts t) f [] l)
 
@@ -138,6 +138,9 @@ module _ (t : Topology) (s : Sound t) where
             (each-in (λ (cell : List ℕ). weights (draws cell) ≡ w) (c .cells) .1 (λ cell i. cell-weigh n (parts t) cell (of cell i) ∙ size cell i));
         some = mul-pos (mul-pos (omega arith) (pow-pos (c .rank))) (counted-some (split t) fine f l);
       }
+
+  pub good-mean : (f : ℕ) → f < split t .vertexCount → GoodMean (t .vertexCount) (meanOf (means t) f)
+  good-mean f l = subst (GoodMean (t .vertexCount)) (sym (mean-is t f l)) (mean-good f l)
 
   pub means-good : Each (GoodMean (t .vertexCount)) (means t)
   unfolding means split splitBy

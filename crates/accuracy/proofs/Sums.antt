@@ -10,19 +10,16 @@ use lib.ListN.{length}
 use Rattle.rules.specs.Lists.{keep, has}
 use Rattle.rules.specs.Mesh.{Mesh, Kind, hex, quad, segment, point, dimension, Topology, topology, cellsOf}
 use Rattle.rules.specs.Split.{split}
-use Rattle.rules.specs.Means.{meanOf, noMean}
+use Rattle.rules.specs.Means.{meanOf}
 use Rattle.rules.specs.Averaging.{holding, rank, valence, means}
 use Rattle.rules.specs.Counts.{countsOf}
 use Rattle.rules.specs.Refusals.{countOutOfRange}
-use Rattle.lists.proofs.Each.{each-at}
 use Rattle.lists.proofs.Tables.{length-cut}
-use Rattle.rounding.specs.Good.{GoodMean}
 use Rattle.rounding.proofs.Draws.{natTotal, natTotal-le}
 use Rattle.soundness.specs.Sound.{Sound}
 use Rattle.soundness.proofs.Rounds.{in-range}
-use Rattle.accuracy.proofs.Rounds.{vertex-means}
 use Rattle.accuracy.proofs.Counted.{ranked}
-use Rattle.accuracy.proofs.Means.{divisor-is, means-good}
+use Rattle.accuracy.proofs.Means.{divisor-is, good-mean}
 
 -- ---- ranks and valences
 
@@ -74,6 +71,6 @@ module _ (t : Topology) (s : Sound t) (f : ℕ) (l : f < split t .vertexCount) (
   pub sum-below : (e : ℕ → ℕ) → ((u : ℕ) → u < t .vertexCount → e u < 2 ^ 30) → natTotal (meanOf (means t) f .draws) e < 2 ^ 54
   sum-below e h =
       let m = meanOf (means t) f in
-      let g = each-at (GoodMean (t .vertexCount)) (means t) noMean f (means-good t s) (rw (vertex-means t) l) in
+      let g = good-mean t s f l in
       let a = natTotal-le (t .vertexCount) (2 ^ 30) e (m .draws) (g .each) (λ u k. omega (arith, h u k)) in
       omega (arith, a, g .whole, divisor-below)

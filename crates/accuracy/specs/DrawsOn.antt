@@ -19,7 +19,7 @@ pub record DrawsOn (t : Topology) (f u : ℕ) : Type 0 where
   pub listed : In parent (cellsOf t kind)
   -- one of its children is counted
   pub cell : List ℕ
-  pub born : In cell (children (parts t) kind parent)
-  pub counts : In cell (counted (split t) f .cells)
+  pub child : In cell (children (parts t) kind parent)
+  pub counted : In cell (counted (split t) f .cells)
   pub ranked : rank (split t) f ≡ dimension kind
   pub corner : In u parent
