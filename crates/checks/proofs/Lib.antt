@@ -15,3 +15,5 @@ pub mod PlainParts
 pub mod Counting
 -- Mismatch: check 7 by number.
 pub mod Mismatch
+-- Marking: marks of corners.
+pub mod Marking

@@ -3,3 +3,5 @@
 pub mod Walk
 -- Held: a vertex is in a cell, by the tables.
 pub mod Held
+-- Marked: what marking the corners of a table leaves in a list of numbers.
+pub mod Marked

@@ -28,11 +28,13 @@ returns-2 c =
     let a = s .args in
     let first = c .before .across .ensures ∙ sym (across-take (f .part-at .result)) ∙ ap across (f .part-at .ensures) in
     let second = c .across2 .ensures ∙ sym (across-take (g .part-at2 .result)) ∙ ap across (g .part-at2 .ensures) in
-    rw (mismatched-at (a .hexes .now) (a .quads .now) (a .segments .now) (s .pre .0) (a .i) (a .j) (s .pre .1 .0) (s .pre .1 .1),
-    ← b .same-parts .ensures,
-    not-false (b .same-parts .result) (f .before .if1 .left),
-    first,
-    second)
+    rw (
+      mismatched-at (a .hexes .now) (a .quads .now) (a .segments .now) (s .pre .0) (a .i) (a .j) (s .pre .1 .0) (s .pre .1 .1),
+      ← b .same-parts .ensures,
+      not-false (b .same-parts .result) (f .before .if1 .left),
+      first,
+      second,
+    )
 
 pub is-mismatched-spec : {M : Type 1} → statement M
 is-mismatched-spec =
