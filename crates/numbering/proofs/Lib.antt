@@ -5,4 +5,8 @@ pub mod Chains
 -- Entries: what the reads and stores of the table's code have to show.
 pub mod Entries
 -- Sort: an insertion sort in place makes the key.
--- pub mod Sort
+pub mod Sort
+-- Places: the places of the parts' corners.
+pub mod Places
+-- Passes: keys met one after the other.
+pub mod Passes

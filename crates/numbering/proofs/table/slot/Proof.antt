@@ -44,7 +44,7 @@ loop-less c = omega arith
 
 loop-again : tie.Need-loop-again Inv-loop μ-loop
 unfolding mix
-loop-again c = 
+loop-again c =
     let l = c .before .before .before in
     let k = l .before .before .args .key .now in
     let u : l .loop .i < length k = omega arith in
@@ -59,7 +59,7 @@ mul-result c = omega (arith, mul-le-mul (c .before .loop .inv .1) (c .before .be
 
 returns : tie.Need-returns Inv-loop μ-loop
 unfolding mix slotOf
-returns c = 
+returns c =
     let l = c .before in
     let k = l .before .before .args .key .now in
     ap (λ (h : ℕ). h * (l .before .before .args .room + 1) / 2 ^ 32) (rw (drop-of-length-le k {i = l .loop .i} (omega arith)) at (l .loop .inv .2))
