@@ -161,3 +161,14 @@ key-rising xs h =
     rising-ext (keyOf xs) xs (key-rises xs (once-rising xs h)) h
     (λ z i. in-key xs z i)
     (λ z i. key-in xs z i)
+
+-- the key of two numbers does not depend on their order
+pub key-swap : (a b : ℕ) → keyOf (a ∷ b ∷ []) ≡ keyOf (b ∷ a ∷ [])
+unfolding keyOf insert
+key-swap a b = go (leb a b) refl (leb b a) refl
+  where
+    go : (v : Bool) → leb a b ≡ v → (u : Bool) → leb b a ≡ u → cond (leb a b) (a ∷ b ∷ []) (b ∷ a ∷ []) ≡ cond (leb b a) (b ∷ a ∷ []) (a ∷ b ∷ [])
+    go true p true q = let e : a ≡ b = omega (arith, leb-true a b p, leb-true b a q) in rw (p, q) (cc)
+    go true p false q = rw (p, q)
+    go false p true q = rw (p, q)
+    go false p false q = absurd (omega (arith, leb-false a b p, leb-false b a q))

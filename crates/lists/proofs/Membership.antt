@@ -64,6 +64,15 @@ module _ {A : Type 0} where
       go true e (inr k) f = (inr (f k .0), f k .1)
       go false e k f = (inr (f k .0), f k .1)
 
+  pub length-keep : (p : A → Bool) (xs : List A) → length (keep p xs) ≤ length xs
+  unfolding keep
+  length-keep p [] = zero-le
+  length-keep p (x ∷ xs) = go (p x) (length-keep p xs)
+    where
+      go : (b : Bool) → length (keep p xs) ≤ length xs → length (cond b (x ∷ keep p xs) (keep p xs)) ≤ suc (length xs)
+      go true h = suc-le-suc h
+      go false h = omega arith
+
   -- ---- lists joined
 
   pub concat-in : (xss : List (List A)) (xs : List A) (x : A) → In xs xss → In x xs → In x (concat xss)

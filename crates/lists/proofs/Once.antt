@@ -8,7 +8,7 @@ use native.Mathlib.Omega.{arith}
 use lib.ListN.{length, getD, length-append}
 use Rattle.rules.specs.Lists.{keep, concatMap, upFrom}
 use Rattle.lists.specs.Membership.{In, Once}
-use Rattle.lists.proofs.Membership.{in-append, in-keep, map-in, in-map, in-concatMap, in-upFrom, getD-in}
+use Rattle.lists.proofs.Membership.{in-append, in-keep, map-in, in-map, in-concatMap, in-upFrom, getD-in, in-getD}
 
 module _ {A : Type 0} where
   pub once-append : (xs ys : List A) → Once xs → Once ys → ((x : A) → In x xs → In x ys → ⊥) → Once (xs ++ ys)
@@ -34,6 +34,16 @@ module _ {A : Type 0} where
   once-place (x ∷ xs) d h zero (suc j) k l e = absurd (h .0 (subst (λ (z : A). In z xs) (sym e) (getD-in xs j d (omega arith))))
   once-place (x ∷ xs) d h (suc i) zero k l e = absurd (h .0 (subst (λ (z : A). In z xs) e (getD-in xs i d (omega arith))))
   once-place (x ∷ xs) d h (suc i) (suc j) k l e = ap suc (once-place xs d (h .1) i j (omega arith) (omega arith) e)
+
+  pub place-once : (xs : List A) (d : A) → ((i j : ℕ) → i < length xs → j < length xs → getD xs i d ≡ getD xs j d → i ≡ j) → Once xs
+  place-once [] d h = tt
+  place-once (x ∷ xs) d h = (
+    (λ i.
+        let r = in-getD xs x d i in
+        let e : 0 ≡ suc (r .0) = h 0 (suc (r .0)) (omega arith) (omega (arith, r .1)) (sym (r .2)) in
+        omega (arith, e)),
+    place-once xs d (λ i j k l e. let p : suc i ≡ suc j = h (suc i) (suc j) (omega arith) (omega arith) e in omega (arith, p)),
+  )
 
   -- ---- a list without repeats whose elements are all in a second list is not longer
 

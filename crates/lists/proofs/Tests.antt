@@ -27,12 +27,27 @@ pub is-false : (b : Bool) → (b ≡ true → ⊥) → b ≡ false
 is-false true h = absurd (h refl)
 is-false false h = refl
 
+-- tests that fail together are equal
+pub false-together : (a b : Bool) → (a ≡ false → b ≡ false) → (b ≡ false → a ≡ false) → a ≡ b
+false-together true true f g = refl
+false-together true false f g = g refl
+false-together false true f g = sym (f refl)
+false-together false false f g = refl
+
 pub and-both : (p q : Bool) → (p && q) ≡ true → (p ≡ true) × (q ≡ true)
 and-both true q h = (refl, h)
 and-both false q h = absurd (false≢true h)
 
 pub both-and : (p q : Bool) → p ≡ true → q ≡ true → (p && q) ≡ true
 both-and p q h k = rw (h, k)
+
+pub and-false : (p q : Bool) → (p && q) ≡ false → p ≡ true → q ≡ false
+and-false true q h k = h
+and-false false q h k = absurd (false≢true k)
+
+pub false-and : (p q : Bool) → (p ≡ true → q ≡ false) → (p && q) ≡ false
+false-and true q h = h refl
+false-and false q h = refl
 
 pub or-neither : (p q : Bool) → (p || q) ≡ false → (p ≡ false) × (q ≡ false)
 or-neither true q h = absurd (false≢true (sym h))
@@ -135,13 +150,6 @@ not-has x ys h = is-false (has x ys) (λ k. h (has-in x ys k))
 -- ---- repeats, by a test of equality
 
 module _ {A : Type 0} (equal : A → A → Bool) where
-  pub repeats-once : ((x : A) → equal x x ≡ true) → (xs : List A) → repeats equal xs ≡ false → Once xs
-  unfolding repeats
-  repeats-once r [] h = tt
-  repeats-once r (x ∷ xs) h =
-      let b = or-neither (any (equal x) xs) (repeats equal xs) h in
-      ((λ i. false≢true (sym (b .0) ∙ in-any (equal x) xs x i (r x))), repeats-once r xs (b .1))
-
   pub once-repeats : ((x y : A) → equal x y ≡ true → x ≡ y) → (xs : List A) → Once xs → repeats equal xs ≡ false
   unfolding repeats
   once-repeats r [] h = refl
@@ -149,6 +157,13 @@ module _ {A : Type 0} (equal : A → A → Bool) where
       neither-or (any (equal x) xs) (repeats equal xs)
       (is-false (any (equal x) xs) (λ k. let a = any-in (equal x) xs k in h .0 (subst (λ (z : A). In z xs) (sym (r x (a .0) (a .2))) (a .1))))
       (once-repeats r xs (h .1))
+
+  pub repeats-once : ((x : A) → equal x x ≡ true) → (xs : List A) → repeats equal xs ≡ false → Once xs
+  unfolding repeats
+  repeats-once r [] h = tt
+  repeats-once r (x ∷ xs) h =
+      let b = or-neither (any (equal x) xs) (repeats equal xs) h in
+      ((λ i. false≢true (sym (b .0) ∙ in-any (equal x) xs x i (r x))), repeats-once r xs (b .1))
 
 pub repeats-once-numbers : (xs : List ℕ) → repeats eqb xs ≡ false → Once xs
 repeats-once-numbers xs h = repeats-once eqb (λ x. eq-eqb x x refl) xs h

@@ -4,19 +4,12 @@ use Prim.Native.Nat.{ℕ, zero, suc, _+_, _*_, _/_}
 use lib.ListN.{length}
 use lib.Dec.{ltb, eqb}
 use Rattle.rules.specs.declared.Counts.{Counts}
+use Rattle.rules.specs.declared.Sizes.{Sizes}
 use Rattle.rules.specs.Mesh.{Mesh, hex, quad, segment, point, corners, Topology}
 use Rattle.rules.specs.Split.{edges, faces}
 
--- "V, E, F, H for vertices, edges, faces and hexes", with the quads, segments and points. "Hex faces shared by several cells count once in F."
-pub record Sizes : Type 0 where
-  pub vertices : ℕ
-  pub edges : ℕ
-  pub faces : ℕ
-  pub hexes : ℕ
-  pub quads : ℕ
-  pub segments : ℕ
-  pub points : ℕ
-
+-- A mesh has seven sizes: "V, E, F, H for vertices, edges, faces and hexes", and the quads, segments and points. "Hex faces shared by several
+-- cells count once in F."
 unfoldable pub sizes : Topology → Sizes
 sizes t = record {
   vertices = t .vertexCount;
@@ -56,11 +49,13 @@ countsOf m = record {
   points = length (m .points) / corners point;
 }
 
+-- the five counts among the sizes
+unfoldable pub countsIn : Sizes → Counts
+countsIn s = record { vertices = s .vertices; hexes = s .hexes; quads = s .quads; segments = s .segments; points = s .points }
+
 -- the finished counts, known before any round
 unfoldable pub finishedCounts : ℕ → Topology → Counts
-finishedCounts n t =
-    let s = sizesAfter n (sizes t) in
-    record { vertices = s .vertices; hexes = s .hexes; quads = s .quads; segments = s .segments; points = s .points }
+finishedCounts n t = countsIn (sizesAfter n (sizes t))
 
 -- a refusal's zero counts
 abbrev pub noCounts : Counts

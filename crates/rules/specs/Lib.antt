@@ -25,3 +25,7 @@ pub mod StoredForm
 pub mod Viewer
 -- Listing: what the listing program prints.
 pub mod Listing
+-- SampleMeshes: the meshes of the samples.
+pub mod SampleMeshes
+-- Samples: P1 to P12 and more, as rows of one table under one claim.
+pub mod Samples

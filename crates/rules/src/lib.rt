@@ -10,6 +10,17 @@ pub struct Counts {
     pub points: u32,
 }
 
+// The counts with the distinct edges and faces: what the next round's counts follow from.
+pub struct Sizes {
+    pub vertices: u64,
+    pub edges: u64,
+    pub faces: u64,
+    pub hexes: u64,
+    pub quads: u64,
+    pub segments: u64,
+    pub points: u64,
+}
+
 // What refining and reading answer: the refusal's number, 0 for none, and the counts.
 #[repr(C)]
 pub struct CountsAnswer {

@@ -1,0 +1,2 @@
+-- Sizes: what a round makes of bounded sizes; the rounds that are left.
+pub mod Sizes

@@ -1,0 +1,2 @@
+-- Bounded: sizes up to a bound.
+pub mod Bounded

@@ -1,0 +1,3 @@
+-- Statements about whole numbers.
+-- Range: a coordinate is in range.
+pub mod Range

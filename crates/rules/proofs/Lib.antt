@@ -1,0 +1,2 @@
+-- Samples: document 01's samples, computed.
+pub mod Samples

@@ -1,0 +1,67 @@
+-- The meshes of document 01's foundry samples, and some that they miss.
+use mathlib.Core.List.{List, [], _∷_, _++_, map}
+use Prim.Native.Nat.{ℕ, _*_}
+use lib.ListN.{replicate}
+use lib.IntN.{ℤ, pos, negsuc}
+use Rattle.rules.specs.Lists.{upFrom}
+use Rattle.rules.specs.Mesh.{Mesh, mesh}
+
+-- "One-axis samples have 0 on the other axes."
+unfoldable pub line : List ℤ → List ℤ
+line [] = []
+line (x ∷ xs) = x ∷ pos 0 ∷ pos 0 ∷ line xs
+
+-- segments and points on one axis
+unfoldable pub wire : List ℤ → List ℕ → List ℕ → Mesh
+wire xs ss ps = mesh (line xs) [] [] ss ps
+
+-- P1: one segment 0 to 8
+unfoldable pub bar : Mesh
+bar = wire (pos 0 ∷ pos 8 ∷ []) (0 ∷ 1 ∷ []) []
+
+unfoldable pub square : List ℤ
+square = pos 0 ∷ pos 0 ∷ pos 0 ∷ pos 8 ∷ pos 0 ∷ pos 0 ∷ pos 8 ∷ pos 8 ∷ pos 0 ∷ pos 0 ∷ pos 8 ∷ pos 0 ∷ []
+
+unfoldable pub square8 : List ℤ
+square8 = pos 0 ∷ pos 0 ∷ pos 8 ∷ pos 8 ∷ pos 0 ∷ pos 8 ∷ pos 8 ∷ pos 8 ∷ pos 8 ∷ pos 0 ∷ pos 8 ∷ pos 8 ∷ []
+
+-- P8: the cube of side 8, with some quads
+unfoldable pub cube : List ℕ → Mesh
+cube qs = mesh (square ++ square8) (upFrom 0 8) qs [] []
+
+-- the six faces of the cube
+unfoldable pub sides : List ℕ
+sides = 0 ∷ 1 ∷ 2 ∷ 3 ∷ 4 ∷ 5 ∷ 6 ∷ 7 ∷ 0 ∷ 1 ∷ 5 ∷ 4 ∷ 1 ∷ 2 ∷ 6 ∷ 5 ∷ 2 ∷ 3 ∷ 7 ∷ 6 ∷ 3 ∷ 0 ∷ 4 ∷ 7 ∷ []
+
+-- P12: "the 3 by 3 grid of 000, section 3.2 (4 quads, 8 boundary segments, 4 points)"
+unfoldable pub grid : Mesh
+grid =
+    mesh (line (map pos (upFrom 0 9))) []
+    (0 ∷ 1 ∷ 4 ∷ 3 ∷ 1 ∷ 2 ∷ 5 ∷ 4 ∷ 3 ∷ 4 ∷ 7 ∷ 6 ∷ 4 ∷ 5 ∷ 8 ∷ 7 ∷ [])
+    (0 ∷ 1 ∷ 1 ∷ 2 ∷ 2 ∷ 5 ∷ 5 ∷ 8 ∷ 8 ∷ 7 ∷ 7 ∷ 6 ∷ 6 ∷ 3 ∷ 3 ∷ 0 ∷ [])
+    (0 ∷ 2 ∷ 6 ∷ 8 ∷ [])
+
+-- n vertices at one place, in no cell
+unfoldable pub dots : ℕ → Mesh
+dots n = mesh (replicate (3 * n) (pos 0)) [] [] [] []
+
+-- a hub: three hexes round one edge, from vertex 0 to vertex 7
+unfoldable pub hub : Mesh
+hub =
+    mesh
+    (pos 0 ∷ pos 0 ∷ pos 0 ∷ pos 9 ∷ pos 0 ∷ pos 0 ∷ pos 7 ∷ pos 8 ∷ pos 0 ∷ negsuc 3 ∷ pos 7 ∷ pos 0
+    ∷ negsuc 8 ∷ pos 1 ∷ pos 0 ∷ negsuc 4 ∷ negsuc 7 ∷ pos 0 ∷ pos 6 ∷ negsuc 6 ∷ pos 0
+    ∷ pos 0 ∷ pos 0 ∷ pos 8 ∷ pos 9 ∷ pos 0 ∷ pos 9 ∷ pos 7 ∷ pos 8 ∷ pos 9 ∷ negsuc 3 ∷ pos 7 ∷ pos 9
+    ∷ negsuc 8 ∷ pos 1 ∷ pos 9 ∷ negsuc 4 ∷ negsuc 7 ∷ pos 9 ∷ pos 6 ∷ negsuc 6 ∷ pos 9 ∷ [])
+    (0 ∷ 1 ∷ 2 ∷ 3 ∷ 7 ∷ 8 ∷ 9 ∷ 10 ∷ 0 ∷ 3 ∷ 4 ∷ 5 ∷ 7 ∷ 10 ∷ 11 ∷ 12 ∷ 0 ∷ 5 ∷ 6 ∷ 1 ∷ 7 ∷ 12 ∷ 13 ∷ 8 ∷ [])
+    [] [] []
+
+-- a hex, a quad on its top, two segments and a point
+unfoldable pub mixed : Mesh
+mixed =
+    mesh (square ++ (square8 ++ (pos 20 ∷ pos 3 ∷ negsuc 6 ∷ pos 21 ∷ negsuc 4 ∷ pos 4 ∷ [])))
+    (upFrom 0 8) (4 ∷ 5 ∷ 6 ∷ 7 ∷ []) (6 ∷ 8 ∷ 8 ∷ 9 ∷ []) (9 ∷ [])
+
+-- P1's stored form: 36 bytes, with the bytes 0 and 35 given
+unfoldable pub barBytes : ℕ → ℕ → List ℕ
+barBytes first last = first ∷ 128 ∷ 0 ∷ 16 ∷ [] ++ (replicate 6 0 ++ (32 ∷ [] ++ (replicate 16 0 ++ (64 ∷ [] ++ (replicate 7 0 ++ (last ∷ []))))))
