@@ -5,10 +5,11 @@ use Prim.Native.Nat.{ℕ, suc, _+_, _≤_, _<_}
 use native.Mathlib.Numerals.{add-one}
 use native.Mathlib.Omega.{arith}
 use lib.ListN.{length, getD, set, take, drop, length-append, length-map, take-append-drop}
-use lib.Seq.{take-all, take-suc}
-use Rattle.rules.specs.Lists.{Key, indexOf, meet, meetAll}
+use lib.Seq.{split-at, take-all, take-suc}
+use Rattle.rules.specs.Lists.{concatMap, Key, indexOf, meet, meetAll}
 use Rattle.lists.specs.Membership.{In}
 use Rattle.lists.proofs.Membership.{getD-map}
+use Rattle.lists.proofs.Once.{concatMap-append}
 use Rattle.lists.proofs.Distinct.{index-in, index-left, meetAll-append, meetAll-more}
 use Rattle.memory.proofs.Stores.{Storing, store-start, store-turn, store-end}
 use Rattle.numbering.specs.Table.{keys, Table, Met, MetAll}
@@ -28,6 +29,21 @@ pub length-later : (known xs ys : List Key) → length (meetAll known xs) ≤ le
 length-later known xs ys =
     let r = meetAll-more (meetAll known xs) ys in
     omega (arith, ap length (meetAll-append known xs ys ∙ r .1) ∙ length-append (meetAll known xs) (r .0))
+
+-- ---- a list, element after element
+
+module _ {A B : Type 0} (f : A → List B) (xs : List A) (i : ℕ) (d : A) (l : i < length xs) where
+  -- element i, and the rest
+  pub concatMap-at : concatMap f xs ≡ concatMap f (take i xs) ++ (f (getD xs i d) ++ concatMap f (drop (suc i) xs))
+  unfolding concatMap
+  concatMap-at = ap (concatMap f) (split-at xs i d l) ∙ concatMap-append f (take i xs) (getD xs i d ∷ drop (suc i) xs)
+
+  -- a turn of a loop
+  pub concatMap-turn : concatMap f (take (i + 1) xs) ≡ concatMap f (take i xs) ++ f (getD xs i d)
+  unfolding concatMap
+  concatMap-turn =
+      rw (add-one i, take-suc xs i d l)
+      (concatMap-append f (take i xs) (getD xs i d ∷ []) ∙ ap (λ (r : List B). concatMap f (take i xs) ++ r) (append-nil (f (getD xs i d))))
 
 -- ---- tables
 

@@ -1,7 +1,7 @@
 -- The places of the parts' corners: as many as a part has corners, each below the cell's count. Assumes nothing.
 use mathlib.Core.Path.{_≡_}
 use mathlib.Core.List.{List, []}
-use Prim.Native.Nat.{ℕ, _<_}
+use Prim.Native.Nat.{ℕ, _≤_, _<_}
 use native.Mathlib.Omega.{arith}
 use lib.ListN.{length, getD}
 use Rattle.rules.specs.Lists.{upFrom}
@@ -39,3 +39,26 @@ module _ (parts : Parts) (j : ℕ) (l : j < length (placesOf parts)) where
   place-below q u =
       let p = getD (placesOf parts) j [] in
       each-part parts p (getD-in (placesOf parts) j [] l) .1 (getD p q 0) (getD-in p q 0 (omega (arith, part-size)))
+
+-- a cell has at most 12 parts of one dimension
+pub few-parts : (parts : Parts) → length (placesOf parts) ≤ 12
+unfolding places byDimension singles upFrom
+few-parts HexEdges = omega arith
+few-parts HexFaces = omega arith
+few-parts Hexes = omega arith
+few-parts QuadEdges = omega arith
+few-parts Quads = omega arith
+few-parts Segments = omega arith
+few-parts SegmentFaces = omega arith
+few-parts Points = omega arith
+
+-- a cell has corners
+pub some-corners : (parts : Parts) → 0 < cellCorners parts
+some-corners HexEdges = omega arith
+some-corners HexFaces = omega arith
+some-corners Hexes = omega arith
+some-corners QuadEdges = omega arith
+some-corners Quads = omega arith
+some-corners Segments = omega arith
+some-corners SegmentFaces = omega arith
+some-corners Points = omega arith

@@ -3,8 +3,9 @@ use crate::keys;
 use crate::table;
 ghost use mathlib.Core.Path.{_≡_};
 ghost use mathlib.Core.List.{[]};
-ghost use Prim.Native.Nat.{_+_, _^_, _≤_, _<_};
+ghost use Prim.Native.Nat.{_+_, _/_, _^_, _≤_, _<_};
 ghost use lib.ListN.{length, getD};
+ghost use Rattle.rules.specs.Lists.{cut};
 ghost use Rattle.rules.specs.Mesh.{placeOf};
 ghost use Rattle.rules.specs.Split.{cornersAt, keyAt};
 ghost use Rattle.numbering.specs.Table.{Table};
@@ -143,6 +144,44 @@ pub fn meet_parts(
         numbers[to + part] = (base + number) as u32;
         known = more;
         part += 1;
+    }
+    Tally::Keys(known)
+}
+
+// Meets the parts of cell number `cell` of a flat table.
+fn meet_cell(w: &mut [u32], room: usize, n: usize, parts: Parts, cells: &[u32], cell: usize, key: &mut [u32]) -> Tally
+    requires { ⌜ Table (partCorners parts) (now w) room n ⌝ }
+    requires { ⌜ cell < length (now cells) / cellCorners parts ⌝ }
+    requires { ⌜ length (now key) ≡ partCorners parts ⌝ }
+    ensures { λ r.
+        ⌜ Tallied (partCorners parts) (now (w .entry)) (now (w .exit)) room n
+        (partKeys parts (getD (cut (cellCorners parts) (now (cells .entry))) cell [])) r ⌝ }
+{
+    let size = corners_of(parts);
+    let at = size * cell;
+    let end = at + size;
+    let mut numbers = [0u32; 12];
+    meet_parts(w, room, n, parts, &cells[at..end], 0, key, &mut numbers, 0)
+}
+
+// Meets the parts of all cells of a flat table, cell after cell.
+pub fn meet_table(w: &mut [u32], room: usize, n: usize, parts: Parts, cells: &[u32], key: &mut [u32]) -> Tally
+    requires { ⌜ Table (partCorners parts) (now w) room n ⌝ }
+    requires { ⌜ length (now key) ≡ partCorners parts ⌝ }
+    ensures { λ r.
+        ⌜ Tallied (partCorners parts) (now (w .entry)) (now (w .exit)) room n (tableKeys parts (now (cells .entry))) r ⌝ }
+{
+    let size = corners_of(parts);
+    let count = cells.len() / size;
+    let mut known = n;
+    let mut cell = 0;
+    while cell < count {
+        let met = meet_cell(w, room, known, parts, cells, cell, key);
+        let Tally::Keys(more) = met else {
+            return Tally::Full;
+        };
+        known = more;
+        cell += 1;
     }
     Tally::Keys(known)
 }
