@@ -5,3 +5,5 @@ pub mod Chains
 pub mod Table
 -- Meeting: the answer to meeting a key.
 pub mod Meeting
+-- Parts: the parts of cells that are numbered; the answer to numbering them.
+pub mod Parts
