@@ -17,3 +17,7 @@ pub mod Counting
 pub mod Mismatch
 -- Marking: marks of corners.
 pub mod Marking
+-- FaceTableLaws: the table of faces.
+pub mod FaceTableLaws
+-- FaceWalk: the faces of a mesh, met one after the other.
+pub mod FaceWalk

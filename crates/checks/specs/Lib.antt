@@ -5,3 +5,5 @@ pub mod Walk
 pub mod Held
 -- Marked: what marking the corners of a table leaves in a list of numbers.
 pub mod Marked
+-- FaceTable: a table of the faces met so far.
+pub mod FaceTable

@@ -1,6 +1,7 @@
 // Document 01's checks 1 to 8 over a whole mesh, in order.
 pub mod cells;
 pub mod faces;
+pub mod hashed;
 pub mod marks;
 pub mod pairwise;
 pub mod parts;

@@ -4,7 +4,6 @@ pub mod Firsts
 pub mod Chains
 -- Entries: what the reads and stores of the table's code have to show.
 pub mod Entries
-
 -- Sort: an insertion sort in place makes the key.
 pub mod Sort
 -- Places: the places of the parts' corners.
