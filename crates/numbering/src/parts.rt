@@ -149,7 +149,15 @@ pub fn meet_parts(
 }
 
 // Meets the parts of cell number `cell` of a flat table.
-fn meet_cell(w: &mut [u32], room: usize, n: usize, parts: Parts, cells: &[u32], cell: usize, key: &mut [u32]) -> Tally
+fn meet_cell(
+    w: &mut [u32],
+    room: usize,
+    n: usize,
+    parts: Parts,
+    cells: &[u32],
+    cell: usize,
+    key: &mut [u32],
+) -> Tally
     requires { ⌜ Table (partCorners parts) (now w) room n ⌝ }
     requires { ⌜ cell < length (now cells) / cellCorners parts ⌝ }
     requires { ⌜ length (now key) ≡ partCorners parts ⌝ }
@@ -165,7 +173,14 @@ fn meet_cell(w: &mut [u32], room: usize, n: usize, parts: Parts, cells: &[u32], 
 }
 
 // Meets the parts of all cells of a flat table, cell after cell.
-pub fn meet_table(w: &mut [u32], room: usize, n: usize, parts: Parts, cells: &[u32], key: &mut [u32]) -> Tally
+pub fn meet_table(
+    w: &mut [u32],
+    room: usize,
+    n: usize,
+    parts: Parts,
+    cells: &[u32],
+    key: &mut [u32],
+) -> Tally
     requires { ⌜ Table (partCorners parts) (now w) room n ⌝ }
     requires { ⌜ length (now key) ≡ partCorners parts ⌝ }
     ensures { λ r.

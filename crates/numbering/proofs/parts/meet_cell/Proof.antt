@@ -45,8 +45,7 @@ inside c =
 meet-parts-requires : tie.Need-meet-parts-requires
 meet-parts-requires c κs =
     let d = c .before .before .before .before in
-    let a = d .before .before .before .before in
-    (
+    let a = d .before .before .before .before in (
       a .pre .0,
       (
         rw (d .corners-of .ensures) (entry-length (cellCorners (a .args .parts)) (a .args .cell) (a .args .cells .now) (a .pre .1 .0)),

@@ -77,8 +77,7 @@ meet-table-spec =
     (λ c. omega (arith, c .before .before .before .before .before .before .before .before .before .before .loop-test .taken))
     (λ c.
     let l = c .before .before .before .before .before .before .before .before .before .before .before in
-    let m = c .before .before .before .before .before .before .before in
-    (
+    let m = c .before .before .before .before .before .before .before in (
       m .meet-cell .kept .0 ∙ l .loop .inv .0,
       m .meet-cell .kept .1 .1 .1 .1 .1 .1 .0 ∙ l .loop .inv .1,
       turn (l .loop .inv .2) (inside (c .before .before .before .before .before .before .before .before .before .before)) (rw (c .before .met .given .1) at (m .meet-cell .ensures)),
