@@ -59,7 +59,9 @@ module _ {A : Type 0} where
   unfolding keep
   in-keep p (y ∷ xs) x h = go (p y) refl h (in-keep p xs x)
     where
-      go : (b : Bool) → p y ≡ b → In x (cond b (y ∷ keep p xs) (keep p xs)) → (In x (keep p xs) → In x xs × (p x ≡ true)) → In x (y ∷ xs) × (p x ≡ true)
+      go :
+          (b : Bool) → p y ≡ b → In x (cond b (y ∷ keep p xs) (keep p xs)) → (In x (keep p xs) → In x xs × (p x ≡ true)) →
+          In x (y ∷ xs) × (p x ≡ true)
       go true e (inl q) f = (inl q, ap p q ∙ e)
       go true e (inr k) f = (inr (f k .0), f k .1)
       go false e k f = (inr (f k .0), f k .1)

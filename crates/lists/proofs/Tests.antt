@@ -76,7 +76,9 @@ module _ {A : Type 0} where
   any-in p [] h = absurd (false≢true h)
   any-in p (y ∷ xs) h = go (p y) refl h (any-in p xs)
     where
-      go : (b : Bool) → p y ≡ b → (b || any p xs) ≡ true → (any p xs ≡ true → (x : A) × In x xs × (p x ≡ true)) → (x : A) × In x (y ∷ xs) × (p x ≡ true)
+      go :
+          (b : Bool) → p y ≡ b → (b || any p xs) ≡ true → (any p xs ≡ true → (x : A) × In x xs × (p x ≡ true)) →
+          (x : A) × In x (y ∷ xs) × (p x ≡ true)
       go true e k ih = (y, inl refl, e)
       go false e k ih = let r = ih k in (r .0, inr (r .1), r .2)
 
@@ -123,7 +125,9 @@ module _ {A : Type 0} where
   -- one element more is looked at: a loop's turn
   pub any-turn : (p : A → Bool) (xs : List A) (i : ℕ) (d : A) → i < length xs → any p (take (suc i) xs) ≡ (any p (take i xs) || p (getD xs i d))
   unfolding any
-  any-turn p xs i d h = ap (any p) (take-suc xs i d h) ∙ any-append p (take i xs) (getD xs i d ∷ []) ∙ ap (λ (b : Bool). any p (take i xs) || b) (or-false (p (getD xs i d)))
+  any-turn p xs i d h =
+      ap (any p) (take-suc xs i d h) ∙ any-append p (take i xs) (getD xs i d ∷ [])
+      ∙ ap (λ (b : Bool). any p (take i xs) || b) (or-false (p (getD xs i d)))
 
 module _ {A B : Type 0} where
   pub any-map : (p : B → Bool) (f : A → B) (xs : List A) → any p (map f xs) ≡ any (λ (x : A). p (f x)) xs

@@ -32,11 +32,14 @@ record Least (f : List ℕ) (x : ℕ) : Type 0 where
   least : (j : ℕ) → In j four → corner f place ≤ corner f j
   is : x ≡ corner f (opposite place)
 
--- two numbers, in order
-sorted : (a b : ℕ) → (lesser a b ≤ a) × (lesser a b ≤ b) × (((lesser a b ≡ a) × (greater a b ≡ b)) ⊎ ((lesser a b ≡ b) × (greater a b ≡ a)))
+-- two numbers in order: the lesser is one of them and at most both, the greater is the other
+abbrev Sorted : ℕ → ℕ → ℕ → ℕ → Type 0
+Sorted a b low high = (low ≤ a) × (low ≤ b) × (((low ≡ a) × (high ≡ b)) ⊎ ((low ≡ b) × (high ≡ a)))
+
+sorted : (a b : ℕ) → Sorted a b (lesser a b) (greater a b)
 sorted a b = go (leb a b) refl
   where
-    go : (p : Bool) → leb a b ≡ p → (cond p a b ≤ a) × (cond p a b ≤ b) × (((cond p a b ≡ a) × (cond p b a ≡ b)) ⊎ ((cond p a b ≡ b) × (cond p b a ≡ a)))
+    go : (p : Bool) → leb a b ≡ p → Sorted a b (cond p a b) (cond p b a)
     go true h = (omega arith, omega (arith, leb-true a b h), inl (refl, refl))
     go false h = (omega (arith, leb-false a b h), omega arith, inr (refl, refl))
 
@@ -62,7 +65,9 @@ least-of f = go (ltb (lesser a c) (lesser b d)) refl (sorted a c) (sorted b d)
     at x h j (inr (inr (inl e))) = subst (λ (j : ℕ). x ≤ corner f j) (sym e) (h .2)
     at x h j (inr (inr (inr (inl e)))) = subst (λ (j : ℕ). x ≤ corner f j) (sym e) (h .3)
 
-    go : (r : Bool) → ltb (lesser a c) (lesser b d) ≡ r → (lesser a c ≤ a) × (lesser a c ≤ c) × (((lesser a c ≡ a) × (greater a c ≡ c)) ⊎ ((lesser a c ≡ c) × (greater a c ≡ a))) → (lesser b d ≤ b) × (lesser b d ≤ d) × (((lesser b d ≡ b) × (greater b d ≡ d)) ⊎ ((lesser b d ≡ d) × (greater b d ≡ b))) → Least f (across f)
+    go :
+        (r : Bool) → ltb (lesser a c) (lesser b d) ≡ r → Sorted a c (lesser a c) (greater a c) → Sorted b d (lesser b d) (greater b d) →
+        Least f (across f)
     go true l (h, k, inl e) q =
         let n = ltb-true (lesser a c) (lesser b d) l in
         record { place = 0; placed = inl refl; least = at a (omega arith); is = rw l (e .1) }
@@ -77,7 +82,9 @@ least-of f = go (ltb (lesser a c) (lesser b d)) refl (sorted a c) (sorted b d)
         record { place = 3; placed = inr (inr (inr (inl refl))); least = at d (omega arith); is = rw l (e .1) }
 
 -- the least corner of f is not below that of a face with the same corners
-least-le : (f g : List ℕ) → Quad f → Quad g → keyOf f ≡ keyOf g → (p : Least f (across f)) (q : Least g (across g)) → corner g (q .place) ≤ corner f (p .place)
+least-le :
+    (f g : List ℕ) → Quad f → Quad g → keyOf f ≡ keyOf g → (p : Least f (across f)) (q : Least g (across g)) →
+    corner g (q .place) ≤ corner f (p .place)
 least-le f g a b e p q =
     let i = getD-in f (p .place) 0 (omega (arith, below-four (p .place) (p .placed), a .four-of)) in
     let r = in-getD g (corner f (p .place)) 0 (same-members f g e (corner f (p .place)) i) in
@@ -99,10 +106,14 @@ module _ (f g : List ℕ) (a : Quad f) (b : Quad g) where
   mismatched-across =
       false-together (mismatched f g) (same (keyOf f) (keyOf g) && not (eqb (across f) (across g)))
       (λ h. false-and (same (keyOf f) (keyOf g)) (not (eqb (across f) (across g)))
-      (λ e. ap not (eq-eqb (across f) (across g) (ring-across (same-eq (keyOf f) (keyOf g) e) .0 (ring-kept f g (and-false (same (keyOf f) (keyOf g)) (astray f g) (sym (mismatched-is f g) ∙ h) e))))))
+      (λ e. ap not (eq-eqb (across f) (across g)
+      (ring-across (same-eq (keyOf f) (keyOf g) e) .0
+      (ring-kept f g (and-false (same (keyOf f) (keyOf g)) (astray f g) (sym (mismatched-is f g) ∙ h) e))))))
       (λ h. mismatched-is f g
       ∙ false-and (same (keyOf f) (keyOf g)) (astray f g)
-      (λ e. kept-ring f g (ring-across (same-eq (keyOf f) (keyOf g) e) .1 (eqb-true (across f) (across g) (not-false (eqb (across f) (across g)) (and-false (same (keyOf f) (keyOf g)) (not (eqb (across f) (across g))) h e))))))
+      (λ e. kept-ring f g (ring-across (same-eq (keyOf f) (keyOf g) e) .1
+      (eqb-true (across f) (across g)
+      (not-false (eqb (across f) (across g)) (and-false (same (keyOf f) (keyOf g)) (not (eqb (across f) (across g))) h e))))))
 
 -- ---- all faces of a topology whose cells name no corner twice
 
@@ -120,12 +131,16 @@ module _ (t : Topology) (z : Sized t) (h₅ : repeatedCorner t ≡ false) where
         four-of = ap length (a .3) ∙ length-corners c p ∙ size κ 2 (inr (inr (inl refl))) p (a .2);
         once =
             subst Once (sym (a .3))
-            (once-map (corner c) p (once-part κ p pi) (λ i j k l e. once-place c 0 (repeats-once-numbers c (none-cells t (repeats eqb) h₅ κ c (a .0 .listed))) i j (below i k) (below j l) e));
+            (once-map (corner c) p (once-part κ p pi)
+            (λ i j k l e. once-place c 0 (repeats-once-numbers c (none-cells t (repeats eqb) h₅ κ c (a .0 .listed))) i j (below i k)
+            (below j l) e));
       }
 
   -- Check 7 with one number for each key: where w has for each face's key the number of some face with that key, as of the first met,
   -- the check fails just where some face has another number.
-  pub mismatched-face-by : (w : Key → ℕ) → ((f : List ℕ) → In f (met t 2) → (g : List ℕ) × In g (met t 2) × (keyOf g ≡ keyOf f) × (across g ≡ w (keyOf f))) → mismatchedFace t ≡ any (λ (f : List ℕ). not (eqb (across f) (w (keyOf f)))) (met t 2)
+  pub mismatched-face-by :
+      (w : Key → ℕ) → ((f : List ℕ) → In f (met t 2) → (g : List ℕ) × In g (met t 2) × (keyOf g ≡ keyOf f) × (across g ≡ w (keyOf f))) →
+      mismatchedFace t ≡ any (λ (f : List ℕ). not (eqb (across f) (w (keyOf f)))) (met t 2)
   unfolding mismatchedFace
   mismatched-face-by w own =
       false-together (mismatchedFace t) (any (λ (f : List ℕ). not (eqb (across f) (w (keyOf f)))) (met t 2))
@@ -133,7 +148,11 @@ module _ (t : Topology) (z : Sized t) (h₅ : repeatedCorner t ≡ false) where
       (λ f i.
       let g = own f i in
       let n = none-in (mismatched f) (met t 2) (none-in (λ (f : List ℕ). any (mismatched f) (met t 2)) (met t 2) h f i) (g .0) (g .1) in
-      let e = eqb-true (across f) (across (g .0)) (not-false (eqb (across f) (across (g .0))) (and-false (same (keyOf f) (keyOf (g .0))) (not (eqb (across f) (across (g .0)))) (sym (mismatched-across f (g .0) (met-quad f i) (met-quad (g .0) (g .1))) ∙ n) (eq-same (keyOf f) (keyOf (g .0)) (sym (g .2))))) in
+      let e =
+      eqb-true (across f) (across (g .0))
+      (not-false (eqb (across f) (across (g .0)))
+      (and-false (same (keyOf f) (keyOf (g .0))) (not (eqb (across f) (across (g .0))))
+      (sym (mismatched-across f (g .0) (met-quad f i) (met-quad (g .0) (g .1))) ∙ n) (eq-same (keyOf f) (keyOf (g .0)) (sym (g .2))))) in
       ap not (eq-eqb (across f) (w (keyOf f)) (e ∙ g .3))))
       (λ h. in-none (λ (f : List ℕ). any (mismatched f) (met t 2)) (met t 2)
       (λ f i. in-none (mismatched f) (met t 2)
@@ -142,4 +161,6 @@ module _ (t : Topology) (z : Sized t) (h₅ : repeatedCorner t ≡ false) where
       (λ e. ap not (eq-eqb (across f) (across g) (number h f i ∙ ap w (same-eq (keyOf f) (keyOf g) e) ∙ sym (number h g j)))))))
     where
       number : any (λ (f : List ℕ). not (eqb (across f) (w (keyOf f)))) (met t 2) ≡ false → (f : List ℕ) → In f (met t 2) → across f ≡ w (keyOf f)
-      number h f i = eqb-true (across f) (w (keyOf f)) (not-false (eqb (across f) (w (keyOf f))) (none-in (λ (f : List ℕ). not (eqb (across f) (w (keyOf f)))) (met t 2) h f i))
+      number h f i =
+          eqb-true (across f) (w (keyOf f))
+          (not-false (eqb (across f) (w (keyOf f))) (none-in (λ (f : List ℕ). not (eqb (across f) (w (keyOf f)))) (met t 2) h f i))

@@ -27,5 +27,3 @@ pub mod Opposite
 pub mod Across
 -- A mesh with cells of each kind, to which the laws apply.
 pub mod Instance
--- Rank and valence.
-pub mod Valence

@@ -59,7 +59,9 @@ across? o j = decNumber (opposite (corner o j)) (corner o (opposite j))
 
 round-across : (o : List ℕ) → In o orders → (j : ℕ) → In j four → (Round o → Across o j) × (Across o j → Round o)
 unfolding orders lists keepIf concatMap cornersAt
-round-across = computed (decEach (λ (o : List ℕ). decEach (λ (j : ℕ). decBoth (decIf (round? o) (across? o j)) (decIf (across? o j) (round? o))) four) orders) tt
+round-across =
+    computed (decEach (λ (o : List ℕ). decEach
+    (λ (j : ℕ). decBoth (decIf (round? o) (across? o j)) (decIf (across? o j) (round? o))) four) orders) tt
 
 edge-places : (e : List ℕ) → In e quadEdges → Within e four × Once e
 edge-places = computed (decEach (λ (e : List ℕ). decBoth (within? e four) (decOnce decNumber e)) quadEdges) tt
@@ -147,7 +149,9 @@ module _ (f g : List ℕ) (a : Quad f) (b : Quad g) (e : keyOf f ≡ keyOf g) wh
         (
           (λ p j. to-step s (r .1) p (w p j) (subst (λ (z : Key). In (corner f p) z) (r .2) (part-in f c p j))),
           (λ p j.
-              let u = in-part f c (corner f p) (subst (λ (z : Key). In (corner f p) z) (sym (r .2)) (step-key g s (corner f p) (from-step s (r .1) p j))) in
+              let u =
+              in-part f c (corner f p) (subst (λ (z : Key). In (corner f p) z) (sym (r .2))
+              (step-key g s (corner f p) (from-step s (r .1) p j))) in
               subst (λ (z : ℕ). In z c) (sym (corner-inj f a p (u .0) (step-in s (r .1) p j) (w (u .0) (u .1)) (u .2))) (u .1)),
         ),
       )
@@ -164,22 +168,29 @@ module _ (f g : List ℕ) (a : Quad f) (b : Quad g) (e : keyOf f ≡ keyOf g) wh
       let v = r .2 in
       let eq : keyOf (cornersAt f (c .0)) ≡ keyOf (cornersAt g s) =
       key-ext (cornersAt f (c .0)) (cornersAt g s) (once-step f a (c .0) (c .1)) (once-step g b s (r .1))
-      (λ z j. let q = in-map (corner f) (c .0) z j in subst (λ (y : ℕ). In y (cornersAt g s)) (sym (q .2)) (from-step s (r .1) (q .0) (v .0 (q .0) (q .1))))
+      (λ z j. let q = in-map (corner f) (c .0) z j in subst (λ (y : ℕ). In y (cornersAt g s)) (sym (q .2))
+      (from-step s (r .1) (q .0) (v .0 (q .0) (q .1))))
       (λ z j.
       let q = in-map (corner g) s z j in
       let qi = edge-places s (r .1) .0 (q .0) (q .1) in
-      subst (λ (y : ℕ). In y (cornersAt f (c .0))) (sym (q .2 ∙ σ-is (q .0) qi)) (map-in (corner f) (c .0) (corner (σ .o) (q .0)) (v .1 (corner (σ .o) (q .0)) (map-in (corner (σ .o)) s (q .0) (q .1))))) in
-      subst (λ (z : Key). In z (map (λ (s : List ℕ). keyOf (cornersAt g s)) quadEdges)) (sym (c .2 ∙ eq)) (map-in (λ (s : List ℕ). keyOf (cornersAt g s)) quadEdges s (r .1))
+      subst (λ (y : ℕ). In y (cornersAt f (c .0))) (sym (q .2 ∙ σ-is (q .0) qi))
+      (map-in (corner f) (c .0) (corner (σ .o) (q .0)) (v .1 (corner (σ .o) (q .0)) (map-in (corner (σ .o)) s (q .0) (q .1))))) in
+      subst (λ (z : Key). In z (map (λ (s : List ℕ). keyOf (cornersAt g s)) quadEdges)) (sym (c .2 ∙ eq))
+      (map-in (λ (s : List ℕ). keyOf (cornersAt g s)) quadEdges s (r .1))
     where
       σ-is : (j : ℕ) → In j four → corner g j ≡ corner f (corner (σ .o) j)
       σ-is j i = σ .is j i
 
   -- with corner i of f and corner j of g the same
-  pub opposite-decides : (i j : ℕ) → In i four → In j four → corner f i ≡ corner g j → ((k : Key) → In k (ring f) → In k (ring g)) ↔ (corner f (opposite i) ≡ corner g (opposite j))
+  pub opposite-decides :
+      (i j : ℕ) → In i four → In j four → corner f i ≡ corner g j →
+      ((k : Key) → In k (ring f) → In k (ring g)) ↔ (corner f (opposite i) ≡ corner g (opposite j))
   opposite-decides i j ii ji p = (
     (λ h. ap (corner f) (ap opposite k ∙ both .0 (ring-round h)) ∙ sym (σ .is (opposite j) (opposite-in j ji))),
     (λ h.
-        let v : opposite i ≡ corner o (opposite j) = corner-inj f a (opposite i) (corner o (opposite j)) (opposite-in i ii) (σ .at (opposite j) (opposite-in j ji)) (h ∙ σ .is (opposite j) (opposite-in j ji)) in
+        let v : opposite i ≡ corner o (opposite j) =
+        corner-inj f a (opposite i) (corner o (opposite j)) (opposite-in i ii) (σ .at (opposite j) (opposite-in j ji))
+        (h ∙ σ .is (opposite j) (opposite-in j ji)) in
         round-ring (both .1 (ap opposite (sym k) ∙ v))),
   )
     where

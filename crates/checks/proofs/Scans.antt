@@ -1,0 +1,46 @@
+-- A loop that goes through a list and stops at the first element that passes a test. Assumes nothing.
+use mathlib.Core.Path.{_≡_, refl, sym, ap, _∙_}
+use mathlib.Core.Bool.{Bool, true, false, _||_}
+use mathlib.Core.List.{List, [], _∷_}
+use Prim.Native.Nat.{ℕ, zero, suc, _+_, _<_, _≤_}
+use native.Mathlib.Numerals.{add-one}
+use native.Mathlib.Omega.{arith}
+use lib.ListN.{length, drop, getD, drop-of-length-le}
+use lib.Seq.{drop-cons}
+use Rattle.rules.specs.Lists.{any, repeats}
+
+module _ {A : Type 0} where
+  -- f is found by going through a list: p says of an element, and of those behind it, whether the search may stop there
+  pub record Search (f : List A → Bool) (p : A → List A → Bool) : Type 0 where
+    pub at-nil : f [] ≡ false
+    pub at-cons : (x : A) (xs : List A) → f (x ∷ xs) ≡ (p x xs || f xs)
+
+  pub any-search : (p : A → Bool) → Search (any p) (λ (x : A) (xs : List A). p x)
+  unfolding any
+  any-search p = record { at-nil = refl; at-cons = λ x xs. refl }
+
+  pub repeats-search : (equal : A → A → Bool) → Search (repeats equal) (λ (x : A) (xs : List A). any (equal x) xs)
+  unfolding repeats
+  repeats-search equal = record { at-nil = refl; at-cons = λ x xs. refl }
+
+  -- the loop is at element i, and what is behind decides: the answer r is that of the rest
+  pub record Scanning (f : List A → Bool) (r : Bool) (l : List A) (i : ℕ) : Type 0 where
+    pub below : i ≤ length l
+    pub rest : r ≡ f (drop i l)
+
+  pub scan-start : (f : List A → Bool) (l : List A) → Scanning f (f l) l 0
+  scan-start f l = record { below = omega arith; rest = refl }
+
+  module _ {f : List A → Bool} {p : A → List A → Bool} (s : Search f p) (z : A) {r : Bool} {l : List A} {i : ℕ} (at : Scanning f r l i) where
+    -- the rest, taken apart
+    pub scan-turn : i < length l → r ≡ (p (getD l i z) (drop (i + 1) l) || f (drop (i + 1) l))
+    scan-turn h = rw (at .rest, drop-cons l i z h, ← add-one i) (s .at-cons (getD l i z) (drop (i + 1) l))
+
+    pub scan-hit : i < length l → p (getD l i z) (drop (i + 1) l) ≡ true → true ≡ r
+    scan-hit h e = rw (scan-turn h, e)
+
+    pub scan-miss : i < length l → p (getD l i z) (drop (i + 1) l) ≡ false → Scanning f r l (i + 1)
+    scan-miss h e = record { below = omega arith; rest = rw (scan-turn h, e) }
+
+  pub scan-end : {f : List A → Bool} {p : A → List A → Bool} → Search f p → {r : Bool} {l : List A} {i : ℕ} → Scanning f r l i → length l ≤ i → false ≡ r
+  scan-end s {r} {l} {i} at h = rw (at .rest, drop-of-length-le l {i = i} h) (sym (s .at-nil))
