@@ -7,9 +7,9 @@ use Prim.Native.Nat.{ℕ, suc, _+_, _*_, _/_, _%_, _^_, _-_, _≤_, _<_}
 use native.Mathlib.Nat.{mul-comm, mul-le-mul-left, mul-lt-mul-of-pos-right, mod-lt, div-lt-iff-lt-mul}
 use native.Mathlib.Numerals.{add-one}
 use native.Mathlib.Omega.{arith}
-use lib.ListN.{length, getD, set, length-set, length-append}
+use lib.ListN.{length, getD, set, drop, replicate, length-set, length-append, length-drop, length-replicate, getD-replicate, List·getD-append}
 use lib.Seq.{ext-getD, sets, length-sets, getD-set-same, getD-set-other}
-use Rattle.rules.specs.Lists.{Key, same, indexOf, meet, meetAll}
+use Rattle.rules.specs.Lists.{overwritten, Key, same, indexOf, meet, meetAll}
 use Rattle.lists.specs.Membership.{In}
 use Rattle.lists.proofs.Tests.{false≢true}
 use Rattle.lists.proofs.Keys.{same-refl, same-eq, ne-same}
@@ -55,6 +55,16 @@ pub table-empty : (c : ℕ) (w : List ℕ) (room : ℕ) → wordsFor c room ≤ 
 unfolding headAt
 table-empty c w room fits few z =
     record { fits = fits; few = few; used = omega arith; chains = none-yet (slotOf room) (room + 1) (entryKey c w room) (headAt w) (nextAt c w room) z }
+
+-- a slice that was prepared
+pub table-prepared : (c : ℕ) (w : List ℕ) (room : ℕ) → wordsFor c room ≤ length w → room + 1 < 2 ^ 32 → Table c (overwritten w (replicate (room + 1) 0)) room 0
+unfolding overwritten
+table-prepared c w room fits few =
+    let z : List ℕ = replicate (room + 1) 0 in
+    let n : length z ≡ room + 1 = length-replicate (room + 1) 0 in
+    let long : length (z ++ drop (length z) w) ≡ length w = length-append z (drop (length z) w) ∙ omega (arith, length-drop (length z) w) in
+    table-empty c (z ++ drop (length z) w) room (rw long fits) few
+    (λ h l. List·getD-append z (drop (length z) w) 0 h (omega arith) ∙ getD-replicate (room + 1) h 0 0 l)
 
 -- ---- a walk for k along its chain
 

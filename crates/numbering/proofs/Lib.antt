@@ -10,3 +10,5 @@ pub mod Sort
 pub mod Places
 -- Passes: keys met one after the other.
 pub mod Passes
+-- MeshKeys: what the passes meet, in the words of the rules.
+pub mod MeshKeys

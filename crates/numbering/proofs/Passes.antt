@@ -6,14 +6,17 @@ use native.Mathlib.Numerals.{add-one}
 use native.Mathlib.Omega.{arith}
 use lib.ListN.{length, getD, set, take, drop, length-append, length-map, take-append-drop}
 use lib.Seq.{split-at, take-all, take-suc}
-use Rattle.rules.specs.Lists.{concatMap, Key, indexOf, meet, meetAll}
+use Rattle.rules.specs.Lists.{concatMap, upFrom, Key, indexOf, meet, meetAll, distinct}
 use Rattle.lists.specs.Membership.{In}
 use Rattle.lists.proofs.Membership.{getD-map}
 use Rattle.lists.proofs.Once.{concatMap-append}
 use Rattle.lists.proofs.Distinct.{index-in, index-left, meetAll-append, meetAll-more}
 use Rattle.memory.proofs.Stores.{Storing, store-start, store-turn, store-end}
+use Rattle.numbering.specs.declared.parts.Tally.{Tally}
+use Rattle.numbering.specs.declared.parts.Tally.the-variants.{Keys, Full}
 use Rattle.numbering.specs.Table.{keys, Table, Met, MetAll}
-use Rattle.numbering.specs.Parts.{Numbered}
+use Rattle.numbering.specs.Parts.{Numbered, Tallied}
+use Rattle.numbering.specs.Count.{CountOf}
 use Rattle.numbering.proofs.Entries.{length-keys}
 
 -- ---- more keys are met
@@ -68,6 +71,15 @@ full-later {c} {w} {w₁} {room} {n} {n₁} {ks} a ls more l =
 met-one : {c : ℕ} {w w₁ : List ℕ} {room n count : ℕ} {k : Key} {number : ℕ} → Met c w w₁ room n k number count → MetAll c w w₁ room n (k ∷ []) count
 unfolding meetAll
 met-one m = record { table = m .table; keys-are = m .keys-are }
+
+-- ---- how many keys were met
+
+-- more keys, met behind those that an empty table has met
+pub counted : {c : ℕ} {w w₁ : List ℕ} {room n : ℕ} {before : List Key} → MetAll c w w₁ room 0 before n → (w₂ : List ℕ) (ks : List Key) (r : Tally) → Tallied c w₁ w₂ room n ks r → CountOf (before ++ ks) r
+unfolding keys upFrom distinct
+counted {c} {w} {w₁} {room} {n} {before} a w₂ ks (Keys count) m =
+    sym (length-keys c w₂ room count) ∙ ap length (met-append a m .keys-are)
+counted a w₂ ks Full m = tt
 
 -- ---- a loop over the keys ks that stores their places, counted from `base`, from `to` on: after j turns
 

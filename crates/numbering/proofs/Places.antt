@@ -52,6 +52,17 @@ few-parts Segments = omega arith
 few-parts SegmentFaces = omega arith
 few-parts Points = omega arith
 
+-- a part has at most 8 corners
+pub small-parts : (parts : Parts) → partCorners parts ≤ 8
+small-parts HexEdges = omega arith
+small-parts HexFaces = omega arith
+small-parts Hexes = omega arith
+small-parts QuadEdges = omega arith
+small-parts Quads = omega arith
+small-parts Segments = omega arith
+small-parts SegmentFaces = omega arith
+small-parts Points = omega arith
+
 -- a cell has corners
 pub some-corners : (parts : Parts) → 0 < cellCorners parts
 some-corners HexEdges = omega arith

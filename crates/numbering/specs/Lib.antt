@@ -7,3 +7,5 @@ pub mod Table
 pub mod Meeting
 -- Parts: the parts of cells that are numbered; the answer to numbering them.
 pub mod Parts
+-- Count: how many distinct keys there are.
+pub mod Count

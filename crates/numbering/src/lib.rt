@@ -10,3 +10,5 @@ pub mod table;
 pub mod keys;
 // The parts of cells.
 pub mod parts;
+// Counting distinct parts.
+pub mod count;
