@@ -21,3 +21,7 @@ pub mod Marking
 pub mod FaceTableLaws
 -- FaceWalk: the faces of a mesh, met one after the other.
 pub mod FaceWalk
+-- Duplicates: check 6 and the sizes by counts of distinct keys.
+pub mod Duplicates
+-- Passed: what the first checks let through.
+pub mod Passed
