@@ -3,16 +3,15 @@ use mathlib.Core.Path.{_≡_, refl, sym, ap, subst, _∙_}
 use mathlib.Core.Bool.{Bool, true, false, _||_}
 use mathlib.Core.List.{List, [], _∷_, _++_, map}
 use Prim.Native.Nat.{ℕ, zero, suc, _+_, _*_, _/_, _^_, _≤_, _<_}
-use native.Mathlib.Nat.{div-lt-iff-lt-mul, div-one, mul-comm}
+use native.Mathlib.Nat.{div-lt-iff-lt-mul, mul-comm}
 use native.Mathlib.Omega.{arith}
 use borrow.Author.Tests.{lt-ltb, ltb-true, le-ltb, ltb-false}
 use lib.Dec.{ltb}
-use lib.IntN.{ℤ}
 use lib.ListN.{length, length-append, length-map}
 use Rattle.rules.specs.declared.Counts.{Counts}
 use Rattle.rules.specs.declared.Sizes.{Sizes}
 use Rattle.rules.specs.Lists.{concatMap, upFrom, keyOf}
-use Rattle.rules.specs.Mesh.{Mesh, mesh, Kind, hex, quad, segment, point, Topology, topology, cellsOf, whole, singles, byDimension, places}
+use Rattle.rules.specs.Mesh.{Mesh, Kind, hex, quad, segment, point, Topology, topology, cellsOf, whole, singles, byDimension, places}
 use Rattle.rules.specs.Split.{cornersAt, met, distinctParts}
 use Rattle.rules.specs.Counts.{sizes, sizesAfter, countsIn, finishedCounts, outOfRange, fewer}
 use Rattle.rules.specs.Refusals.{check, partialEntry, countOutOfRange, coordinateOutOfRange, cornerOutOfRange, repeatedCorner, duplicateCell, mismatchedFace, isolatedVertex, tableChecks, meshChecks, tooManyRounds, tooLarge}
@@ -20,7 +19,6 @@ use Rattle.rules.specs.EntryPoints.{Lent as Lengths, shortForRefining, refining
 use Rattle.lists.specs.Membership.{In}
 use Rattle.lists.proofs.Tests.{either, false-together, is-false}
 use Rattle.lists.proofs.Once.{length-concatMap}
-use Rattle.lists.proofs.Tables.{length-cut}
 use Rattle.lists.proofs.Distinct.{distinct-length}
 use Rattle.soundness.specs.Accepted.{Accepted}
 use Rattle.soundness.specs.Growth.{InRange}
@@ -134,13 +132,6 @@ module _ (l : Lengths) (c : Counts) where
   pub short-longs : fewer (l .output) c ≡ false → fewer (l .working) c ≡ false → c .vertices ≤ l .words / 8 → ltb (l .longs / 3) (c .vertices) ≡ shortForRefining l c
   unfolding shortForRefining
   short-longs o w h = rw (o, w, sym (enough 8 (l .words) (c .vertices) (omega arith)) ∙ le-ltb (l .words / 8) (c .vertices) h, enough 3 (l .longs) (c .vertices) (omega arith))
-
--- ---- the sizes as the code works them out
-
-pub sizes-are : (xs : List ℤ) (hs qs ss ps : List ℕ) {e f : ℕ} → e ≡ length (distinctParts (topology (mesh xs hs qs ss ps)) 1) → f ≡ length (distinctParts (topology (mesh xs hs qs ss ps)) 2)
-    → _≡_ {A = Sizes} (record { vertices = length xs / 3; edges = e; faces = f; hexes = length hs / 8; quads = length qs / 4; segments = length ss / 2; points = length ps }) (sizes (topology (mesh xs hs qs ss ps)))
-unfolding sizes topology
-sizes-are xs hs qs ss ps p q = rw (p, q, length-cut 8 hs, length-cut 4 qs, length-cut 2 ss, length-cut 1 ps, div-one (length ps))
 
 -- ---- a plan, refusal by refusal
 

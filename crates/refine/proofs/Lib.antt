@@ -6,3 +6,5 @@ pub mod Turns
 pub mod Decisions
 -- Lending: from the checks to the rounds and back.
 pub mod Lending
+-- OneRound: what splitting and averaging need, and what they leave.
+pub mod OneRound

@@ -23,7 +23,6 @@ ghost use Rattle.accuracy.specs.Property3.{Property3};
 ghost use Rattle.refine.specs.Ready.{ReadyFor, Answerable};
 
 mod plan;
-mod stub;
 mod tables;
 mod turn;
 

@@ -1,12 +1,9 @@
 // The checks 1 to 11, before any round.
-use crate::stub::distinct_parts;
-use crate::stub::mesh_refusal;
 use rules::Sizes;
 ghost use mathlib.Core.Path.{_≡_};
-ghost use Rattle.rules.specs.Mesh.{mesh, topology};
-ghost use Rattle.rules.specs.Counts.{sizes, countsIn};
+ghost use Rattle.rules.specs.Mesh.{mesh};
+ghost use Rattle.rules.specs.Counts.{countsIn};
 ghost use Rattle.rules.specs.EntryPoints.{shortForRefining};
-ghost use Rattle.soundness.specs.Accepted.{Accepted};
 ghost use Rattle.refine.specs.Planned.{lengths, Planned};
 
 // What is lent: the places of the output and of the working tables, the working 32-bit and the working 64-bit numbers.
@@ -58,24 +55,6 @@ fn is_short(lent: Lent, finished: Sizes) -> bool
             || (lent.words / 8 < finished.vertices || lent.longs / 3 < finished.vertices))
 }
 
-// The sizes of a mesh that passed the checks.
-fn sizes_of(xs: &[i32], hs: &[u32], qs: &[u32], ss: &[u32], ps: &[u32], words: &mut [u32]) -> Sizes
-    requires { ⌜ Accepted (mesh (now xs) (now hs) (now qs) (now ss) (now ps)) ⌝ }
-    ensures { λ r. ⌜ r ≡ sizes (topology (mesh (now (xs .entry)) (now (hs .entry)) (now (qs .entry)) (now (ss .entry)) (now (ps .entry)))) ⌝ }
-{
-    let edges = distinct_parts(1, xs, hs, qs, ss, ps, words);
-    let faces = distinct_parts(2, xs, hs, qs, ss, ps, words);
-    Sizes {
-        vertices: (xs.len() / 3) as u64,
-        edges: edges as u64,
-        faces: faces as u64,
-        hexes: (hs.len() / 8) as u64,
-        quads: (qs.len() / 4) as u64,
-        segments: (ss.len() / 2) as u64,
-        points: ps.len() as u64,
-    }
-}
-
 // The first refusal of checks 1 to 11, and the sizes.
 pub fn decide(
     xs: &[i32],
@@ -89,14 +68,14 @@ pub fn decide(
 ) -> Plan
     ensures { λ r. ⌜ Planned (mesh (now (xs .entry)) (now (hs .entry)) (now (qs .entry)) (now (ss .entry)) (now (ps .entry))) rounds lent r ⌝ }
 {
-    let refusal = mesh_refusal(xs, hs, qs, ss, ps, words);
+    let refusal = checks::mesh_refusal(xs, hs, qs, ss, ps, words);
     if refusal != 0 {
         return refused(refusal);
     }
     if 8 < rounds {
         return refused(9);
     }
-    let start = sizes_of(xs, hs, qs, ss, ps, words);
+    let start = checks::mesh_sizes(xs, hs, qs, ss, ps, words);
     let finished = counting::sizes_after(rounds, start);
     if counting::out_of_range(finished) {
         return refused(10);

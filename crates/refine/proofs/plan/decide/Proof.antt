@@ -6,7 +6,7 @@ use denote.Ref.{now}
 use Rattle.rules.specs.declared.Sizes.{Sizes}
 use Rattle.rules.specs.Mesh.{Mesh, mesh}
 use Rattle.soundness.specs.Accepted.{Accepted}
-use Rattle.soundness.proofs.Checks.{checks-accept}
+use Rattle.soundness.proofs.Checks.{checks-accept, no-repeated-corner}
 use Rattle.counting.specs.Bounded.{Bounded}
 use Rattle.refine.proofs.Decisions.{refusal-mesh, planned-refused, planned-rounds, planned-large, planned-short, planned, accepted-bounded}
 use Rattle.refine.proofs.plan.decide.Statement.{statement}
@@ -36,14 +36,16 @@ returns-2 c =
     let s = start e in
     planned-rounds (given s) (s .args .rounds) (s .args .lent) (c .refused2 .result) (passed e) (c .refused2 .ensures) (c .before .if2 .taken)
 
-sizes-of-requires : tie.Need-sizes-of-requires
-sizes-of-requires c κs = passed (c .before .before)
+mesh-sizes-requires : tie.Need-mesh-sizes-requires
+mesh-sizes-requires c κs =
+    let e = c .before .before in
+    no-repeated-corner _ (passed e .sound)
 
 sizes-after-requires : tie.Need-sizes-after-requires
 sizes-after-requires c κs =
     let z = c .before .before in
     let e = z .before .before .before in
-    (subst (λ (s : Sizes). Bounded (2 ^ 23) s) (sym (z .sizes-of .ensures)) (accepted-bounded (given (start e)) (passed e)), z .before .before .if2 .left)
+    (subst (λ (s : Sizes). Bounded (2 ^ 23) s) (sym (z .mesh-sizes .ensures)) (accepted-bounded (given (start e)) (passed e)), z .before .before .if2 .left)
 
 returns-3 : tie.Need-returns-3
 returns-3 c =
@@ -52,7 +54,7 @@ returns-3 c =
     let z = f .before .before .before in
     let e = z .before .before .before in
     let s = start e in
-    planned-large (given s) (s .args .rounds) (s .args .lent) (c .refused3 .result) (passed e) (z .before .before .if2 .left) (z .sizes-of .result) (f .sizes-after .result) (z .sizes-of .ensures) (f .sizes-after .ensures)
+    planned-large (given s) (s .args .rounds) (s .args .lent) (c .refused3 .result) (passed e) (z .before .before .if2 .left) (z .mesh-sizes .result) (f .sizes-after .result) (z .mesh-sizes .ensures) (f .sizes-after .ensures)
     (c .refused3 .ensures) (sym (o .out-of-range .ensures) ∙ c .before .if3 .taken)
 
 -- the working numbers keep their length
@@ -60,7 +62,7 @@ same-length-4 : tie.Need-same-length-4
 same-length-4 c =
     let z = c .before .before .before .before .before .before .before .before in
     let e = z .before .before .before in
-    z .sizes-of .kept .1 .1 .1 .1 .1 .0 ∙ e .before .before .before .mesh-refusal .kept .1 .1 .1 .1 .1 .0
+    z .mesh-sizes .kept .1 .1 .1 .1 .1 .0 ∙ e .before .before .before .mesh-refusal .kept .1 .1 .1 .1 .1 .0
 
 returns-4 : tie.Need-returns-4
 returns-4 c =
@@ -70,7 +72,7 @@ returns-4 c =
     let z = f .before .before .before in
     let e = z .before .before .before in
     let s = start e in
-    planned-short (given s) (s .args .rounds) (s .args .lent) (c .refused4 .result) (passed e) (z .before .before .if2 .left) (z .sizes-of .result) (f .sizes-after .result) (z .sizes-of .ensures) (f .sizes-after .ensures)
+    planned-short (given s) (s .args .rounds) (s .args .lent) (c .refused4 .result) (passed e) (z .before .before .if2 .left) (z .mesh-sizes .result) (f .sizes-after .result) (z .mesh-sizes .ensures) (f .sizes-after .ensures)
     (c .refused4 .ensures) (sym (o .out-of-range .ensures) ∙ h .before .if3 .left) (sym (h .is-short .ensures) ∙ c .before .if4 .taken)
 
 returns-5 : tie.Need-returns-5
@@ -81,7 +83,7 @@ returns-5 c =
     let z = f .before .before .before in
     let e = z .before .before .before in
     let s = start e in
-    planned (given s) (s .args .rounds) (s .args .lent) _ (passed e) (z .before .before .if2 .left) (z .sizes-of .result) (f .sizes-after .result) (z .sizes-of .ensures) (f .sizes-after .ensures)
+    planned (given s) (s .args .rounds) (s .args .lent) _ (passed e) (z .before .before .if2 .left) (z .mesh-sizes .result) (f .sizes-after .result) (z .mesh-sizes .ensures) (f .sizes-after .ensures)
     refl refl refl (sym (o .out-of-range .ensures) ∙ h .before .if3 .left) (sym (h .is-short .ensures) ∙ c .if4 .left)
 
 pub decide-spec : {M : Type 1} → statement M
@@ -95,7 +97,7 @@ decide-spec =
     (λ c κs. search needs)
     (λ c. search needs)
     returns-2
-    sizes-of-requires
+    mesh-sizes-requires
     sizes-after-requires
     (λ c κs. search needs)
     (λ c κs. search needs)
