@@ -1,0 +1,2 @@
+-- Tables: the table of smallest parts.
+pub mod Tables

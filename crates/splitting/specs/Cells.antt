@@ -1,0 +1,27 @@
+-- The numbers of a cell's parts, and its children's corners from them.
+use mathlib.Core.List.{List, [], _∷_, _++_, map}
+use Prim.Native.Nat.{ℕ, _+_}
+use lib.ListN.{getD}
+use Rattle.rules.specs.Lists.{concatMap, Key, indexOf}
+use Rattle.rules.specs.Mesh.{Kind, smallestTable}
+use Rattle.numbering.specs.Parts.{partKeys}
+use Rattle.splitting.specs.declared.kinds.CellKind.{CellKind}
+use Rattle.splitting.specs.Kinds.{kindOf, edgesOf, facesOf}
+
+-- the places of keys in a list, counted from `base`
+abbrev pub numbersIn : ℕ → List Key → List Key → List ℕ
+numbersIn base ks all = map (λ (k : Key). base + indexOf k all) ks
+
+-- The numbers of the fine vertices of a cell: its corners, its edges, its faces, its own. `edges` and `faces` are those of the mesh; their
+-- vertices are numbered from `edgeBase` and from `faceBase` on.
+unfoldable pub cellNumbers : CellKind → ℕ → List Key → ℕ → List Key → ℕ → List ℕ → List ℕ
+cellNumbers kind edgeBase edges faceBase faces own cell =
+    cell ++ (numbersIn edgeBase (partKeys (edgesOf kind) cell) edges ++ (numbersIn faceBase (partKeys (facesOf kind) cell) faces ++ (own ∷ [])))
+
+-- the numbers that a row of the table of smallest parts picks: the corners of a child
+abbrev pub picked : List ℕ → List ℕ → List ℕ
+picked numbers row = map (λ (q : ℕ). getD numbers q 0) row
+
+-- the corners of all children, one child after the other
+unfoldable pub childCorners : Kind → List ℕ → List ℕ
+childCorners κ numbers = concatMap (picked numbers) (smallestTable κ)

@@ -1,0 +1,5 @@
+-- What the contracts of the split cite.
+-- Kinds: the kinds of cells that are split.
+pub mod Kinds
+-- Cells: the numbers of a cell's parts, and its children's corners from them.
+pub mod Cells

@@ -1,0 +1,3 @@
+// One round's fine cells.
+pub mod kinds;
+pub mod cells;
