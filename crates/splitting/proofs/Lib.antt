@@ -1,2 +1,6 @@
 -- Tables: the table of smallest parts.
 pub mod Tables
+-- KindParts: the parts of each kind of cells.
+pub mod KindParts
+-- Halves: a list lent in two parts.
+pub mod Halves

@@ -3,3 +3,5 @@
 pub mod Kinds
 -- Cells: the numbers of a cell's parts, and its children's corners from them.
 pub mod Cells
+-- Words: the tables of the edges and of the faces in the lent words.
+pub mod Words

@@ -12,8 +12,22 @@ ghost use Rattle.rules.specs.Lists.{meetAll};
 ghost use Rattle.rules.specs.Mesh.{smallestTable};
 ghost use Rattle.numbering.specs.Table.{keys, Table};
 ghost use Rattle.numbering.specs.Parts.{placesOf, partCorners, cellCorners, partKeys, Numbered};
-ghost use Rattle.splitting.specs.Kinds.{kindOf, cornerCount};
+ghost use Rattle.splitting.specs.Kinds.{kindOf, cornerCount, edgesOf, facesOf};
 ghost use Rattle.splitting.specs.Cells.{picked, childCorners};
+ghost use Rattle.splitting.specs.Words.{facesAt, edgeWords, faceWords, Room, BothMet, CellNumbered};
+
+// V, E and F of the mesh: behind the old vertices come those of the edges, then those of the faces.
+pub struct Base {
+    pub vertices: usize,
+    pub edges: usize,
+    pub faces: usize,
+}
+
+// How many edges and faces have been met.
+pub struct Known {
+    pub edges: usize,
+    pub faces: usize,
+}
 
 // Meets the parts of a cell in a table that has room for them all: `meet_parts` of the numbering, which cannot answer `Full` here.
 fn number_parts(
@@ -42,6 +56,70 @@ fn number_parts(
         return n;
     };
     count
+}
+
+// Meets the edges of a cell in their table, and writes the numbers of their vertices to `numbers` from `to` on.
+fn number_edges(w: &mut [u32], base: Base, n: usize, kind: kinds::CellKind, cell: &[u32], numbers: &mut [u32], to: usize) -> usize
+    requires { ⌜ Table 2 (edgeWords base (now w)) (base .edges) n ⌝ }
+    requires { ⌜ length (meetAll (keys 2 (edgeWords base (now w)) (base .edges) n) (partKeys (edgesOf kind) (now cell))) ≤ base .edges ⌝ }
+    requires { ⌜ length (now cell) ≡ cornerCount kind ⌝ }
+    requires { ⌜ base .vertices + base .edges ≤ 2 ^ 32 ⌝ }
+    requires { ⌜ to + length (placesOf (edgesOf kind)) ≤ length (now numbers) ⌝ }
+    ensures { λ r.
+        ⌜ Numbered 2 (edgeWords base (now (w .entry))) (edgeWords base (now (w .exit))) (base .edges) n
+        (partKeys (edgesOf kind) (now (cell .entry))) (base .vertices) to (now (numbers .entry)) (now (numbers .exit)) r ⌝ }
+    ensures { λ _. ⌜ faceWords base (now (w .exit)) ≡ faceWords base (now (w .entry)) ⌝ }
+{
+    let mut key = [0u32; 2];
+    let of = kinds::edges_of(kind);
+    let end = 4 * base.edges + 1;
+    number_parts(&mut w[..end], base.edges, n, of, cell, base.vertices, &mut key, numbers, to)
+}
+
+// The same of the faces, in their table.
+fn number_faces(w: &mut [u32], base: Base, n: usize, kind: kinds::CellKind, cell: &[u32], numbers: &mut [u32], to: usize) -> usize
+    requires { ⌜ facesAt base ≤ length (now w) ⌝ }
+    requires { ⌜ Table 4 (faceWords base (now w)) (base .faces) n ⌝ }
+    requires { ⌜ length (meetAll (keys 4 (faceWords base (now w)) (base .faces) n) (partKeys (facesOf kind) (now cell))) ≤ base .faces ⌝ }
+    requires { ⌜ length (now cell) ≡ cornerCount kind ⌝ }
+    requires { ⌜ base .vertices + base .edges + base .faces ≤ 2 ^ 32 ⌝ }
+    requires { ⌜ to + length (placesOf (facesOf kind)) ≤ length (now numbers) ⌝ }
+    ensures { λ r.
+        ⌜ Numbered 4 (faceWords base (now (w .entry))) (faceWords base (now (w .exit))) (base .faces) n
+        (partKeys (facesOf kind) (now (cell .entry))) (base .vertices + base .edges) to (now (numbers .entry)) (now (numbers .exit)) r ⌝ }
+    ensures { λ _. ⌜ edgeWords base (now (w .exit)) ≡ edgeWords base (now (w .entry)) ⌝ }
+{
+    let mut key = [0u32; 4];
+    let of = kinds::faces_of(kind);
+    let start = 4 * base.edges + 1;
+    number_parts(&mut w[start..], base.faces, n, of, cell, base.vertices + base.edges, &mut key, numbers, to)
+}
+
+// Meets the edges and faces of a cell, and writes the numbers of its fine vertices to the front of `numbers`: its corners, its edges, its
+// faces, its own.
+fn cell_numbers(w: &mut [u32], base: Base, n: Known, kind: kinds::CellKind, cell: &[u32], own: usize, numbers: &mut [u32]) -> Known
+    requires { ⌜ Room base (now w) n (partKeys (edgesOf kind) (now cell)) (partKeys (facesOf kind) (now cell)) ⌝ }
+    requires { ⌜ length (now cell) ≡ cornerCount kind ⌝ }
+    requires { ⌜ base .vertices + base .edges + base .faces ≤ 2 ^ 32 ⌝ }
+    requires { ⌜ own < 2 ^ 32 ⌝ }
+    requires { ⌜ 27 ≤ length (now numbers) ⌝ }
+    ensures { λ r.
+        ⌜ BothMet base (now (w .entry)) (now (w .exit)) n (partKeys (edgesOf kind) (now (cell .entry)))
+        (partKeys (facesOf kind) (now (cell .entry))) r ⌝ }
+    ensures { λ _.
+        ⌜ CellNumbered base (now (w .entry)) n kind (now (cell .entry)) own (now (numbers .entry)) (now (numbers .exit)) ⌝ }
+{
+    memory::copy_u32(cell, numbers);
+    let edges_to = cell.len();
+    let edges = number_edges(w, base, n.edges, kind, cell, numbers, edges_to);
+    let faces_to = edges_to + parts::count_of(kinds::edges_of(kind));
+    let faces = number_faces(w, base, n.faces, kind, cell, numbers, faces_to);
+    let own_to = faces_to + parts::count_of(kinds::faces_of(kind));
+    numbers[own_to] = own as u32;
+    Known {
+        edges: edges,
+        faces: faces,
+    }
 }
 
 // Writes the corners of child i of a cell, from the numbers of its parts, to `out` from `at` on.
