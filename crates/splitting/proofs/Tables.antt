@@ -3,12 +3,12 @@ use mathlib.Core.Path.{_≡_, sym, ap, _∙_, subst}
 use mathlib.Core.List.{List, [], _++_}
 use Prim.Native.Nat.{ℕ, _+_, _*_, _≤_, _<_}
 use native.Mathlib.Omega.{arith}
-use lib.ListN.{length, getD, take, drop, length-map, take-append-drop}
+use lib.ListN.{length, getD, take, drop, length-map, take-append-drop, List·getD-append}
 use lib.Seq.{sets, length-take-le}
-use Rattle.rules.specs.Lists.{concat, concatMap, upFrom, any, has}
+use Rattle.rules.specs.Lists.{concat, concatMap, overwritten, upFrom, any, has}
 use Rattle.rules.specs.Mesh.{Kind, corners, singles, whole, byDimension, cellParts, firstHolding, smallestTable, placeOf}
 use Rattle.lists.specs.Membership.{In}
-use Rattle.lists.proofs.Membership.{in-left, getD-in}
+use Rattle.lists.proofs.Membership.{in-left, getD-in, map-same, concatMap-same}
 use Rattle.lists.proofs.Once.{length-concatMap}
 use Rattle.lists.proofs.Decide.{computed, decBoth, decEach, decNumber, decBelow}
 use Rattle.memory.proofs.Stores.{sets-append}
@@ -16,7 +16,7 @@ use Rattle.numbering.proofs.Passes.{concatMap-turn}
 use Rattle.splitting.specs.declared.kinds.CellKind.{CellKind}
 use Rattle.splitting.specs.declared.kinds.CellKind.the-variants.{Hex, Quad, Segment}
 use Rattle.splitting.specs.Kinds.{kindOf, cornerCount}
-use Rattle.splitting.specs.Cells.{picked}
+use Rattle.splitting.specs.Cells.{picked, childCorners}
 
 module _ {A : Type 0} where
   take-in : (xs : List A) (i : ℕ) (x : A) → In x (take i xs) → In x xs
@@ -81,3 +81,12 @@ module _ (kind : CellKind) (numbers : List ℕ) (i : ℕ) where
       ap (λ (k : ℕ). sets (sets out at s) (at + k) r) (sym (rows-length (omega arith)))
       ∙ sym (sets-append out at s r)
       ∙ ap (sets out at) (sym (concatMap-turn (picked numbers) rows i [] (omega (arith, table-rows kind))))
+
+-- ---- what stands behind the numbers is not picked
+
+pub front-picked : (kind : CellKind) (old numbers : List ℕ) → length (cellParts (kindOf kind)) ≤ length numbers → childCorners (kindOf kind) (overwritten old numbers) ≡ childCorners (kindOf kind) numbers
+unfolding childCorners overwritten
+front-picked kind old numbers l =
+    concatMap-same (picked (numbers ++ drop (length numbers) old)) (picked numbers) (smallestTable (kindOf kind))
+    (λ row i. map-same (λ (q : ℕ). getD (numbers ++ drop (length numbers) old) q 0) (λ (q : ℕ). getD numbers q 0) row
+    (λ q j. List·getD-append numbers (drop (length numbers) old) 0 q (omega (arith, row-below kind row i q j))))

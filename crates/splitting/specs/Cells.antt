@@ -2,11 +2,15 @@
 use mathlib.Core.List.{List, [], _∷_, _++_, map}
 use Prim.Native.Nat.{ℕ, _+_}
 use lib.ListN.{getD}
-use Rattle.rules.specs.Lists.{concatMap, Key, indexOf}
+use Rattle.rules.specs.Lists.{concatMap, cut, Key, indexOf}
 use Rattle.rules.specs.Mesh.{Kind, smallestTable}
 use Rattle.numbering.specs.Parts.{partKeys}
 use Rattle.splitting.specs.declared.kinds.CellKind.{CellKind}
-use Rattle.splitting.specs.Kinds.{kindOf, edgesOf, facesOf}
+use Rattle.splitting.specs.Kinds.{cornerCount, edgesOf, facesOf}
+
+-- cell number i of a flat table
+abbrev pub entryOf : CellKind → List ℕ → ℕ → List ℕ
+entryOf kind cells i = getD (cut (cornerCount kind) cells) i []
 
 -- the places of keys in a list, counted from `base`
 abbrev pub numbersIn : ℕ → List Key → List Key → List ℕ

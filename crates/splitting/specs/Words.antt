@@ -3,14 +3,15 @@ use mathlib.Core.Path.{_≡_}
 use mathlib.Core.List.{List, _++_}
 use Prim.Native.Nat.{ℕ, _+_, _*_, _≤_}
 use lib.ListN.{length, take, drop}
+use lib.Seq.{sets}
 use Rattle.rules.specs.Lists.{overwritten, Key, meetAll}
 use Rattle.numbering.specs.Table.{keys, Table, MetAll}
 use Rattle.numbering.specs.Parts.{partKeys}
 use Rattle.splitting.specs.declared.kinds.CellKind.{CellKind}
 use Rattle.splitting.specs.declared.cells.Base.{Base}
 use Rattle.splitting.specs.declared.cells.Known.{Known}
-use Rattle.splitting.specs.Kinds.{edgesOf, facesOf}
-use Rattle.splitting.specs.Cells.{cellNumbers}
+use Rattle.splitting.specs.Kinds.{kindOf, edgesOf, facesOf}
+use Rattle.splitting.specs.Cells.{cellNumbers, childCorners}
 
 -- the edges' table takes the first 4 E + 1 words, the faces' table the others
 abbrev pub facesAt : Base → ℕ
@@ -49,3 +50,8 @@ numbersAt base w n kind cell own es fs =
 
 abbrev pub CellNumbered : Base → List ℕ → Known → CellKind → List ℕ → ℕ → List ℕ → List ℕ → Type 0
 CellNumbered base w n kind cell own old new = (es fs : List Key) → new ≡ overwritten old (numbersAt base w n kind cell own es fs)
+
+-- the corners of its children, stored from `at` on
+abbrev pub CellSplit : Base → List ℕ → Known → CellKind → List ℕ → ℕ → ℕ → List ℕ → List ℕ → Type 0
+CellSplit base w n kind cell own at old new =
+    (es fs : List Key) → new ≡ sets old at (childCorners (kindOf kind) (numbersAt base w n kind cell own es fs))

@@ -5,7 +5,7 @@ use numbering::parts;
 
 ghost use mathlib.Core.Path.{_≡_};
 ghost use mathlib.Core.List.{[], _++_};
-ghost use Prim.Native.Nat.{_+_, _*_, _^_, _≤_, _<_};
+ghost use Prim.Native.Nat.{_+_, _*_, _/_, _^_, _≤_, _<_};
 ghost use lib.ListN.{length, getD};
 ghost use lib.Seq.{sets};
 ghost use Rattle.rules.specs.Lists.{meetAll};
@@ -13,8 +13,8 @@ ghost use Rattle.rules.specs.Mesh.{smallestTable};
 ghost use Rattle.numbering.specs.Table.{keys, Table};
 ghost use Rattle.numbering.specs.Parts.{placesOf, partCorners, cellCorners, partKeys, Numbered};
 ghost use Rattle.splitting.specs.Kinds.{kindOf, cornerCount, edgesOf, facesOf};
-ghost use Rattle.splitting.specs.Cells.{picked, childCorners};
-ghost use Rattle.splitting.specs.Words.{facesAt, edgeWords, faceWords, Room, BothMet, CellNumbered};
+ghost use Rattle.splitting.specs.Cells.{picked, childCorners, entryOf};
+ghost use Rattle.splitting.specs.Words.{facesAt, edgeWords, faceWords, Room, BothMet, CellNumbered, CellSplit};
 
 // V, E and F of the mesh: behind the old vertices come those of the edges, then those of the faces.
 pub struct Base {
@@ -151,4 +151,45 @@ fn children(kind: kinds::CellKind, numbers: &[u32], out: &mut [u32], at: usize)
         child(kind, numbers, i, out, at + corners * i);
         i += 1;
     }
+}
+
+// Meets a cell, given by its corner numbers, and writes the corners of its children to `out` from `at` on.
+fn split_cell(w: &mut [u32], base: Base, n: Known, kind: kinds::CellKind, cell: &[u32], own: usize, out: &mut [u32], at: usize) -> Known
+    requires { ⌜ Room base (now w) n (partKeys (edgesOf kind) (now cell)) (partKeys (facesOf kind) (now cell)) ⌝ }
+    requires { ⌜ length (now cell) ≡ cornerCount kind ⌝ }
+    requires { ⌜ base .vertices + base .edges + base .faces ≤ 2 ^ 32 ⌝ }
+    requires { ⌜ own < 2 ^ 32 ⌝ }
+    requires { ⌜ at + cornerCount kind * cornerCount kind ≤ length (now out) ⌝ }
+    ensures { λ r.
+        ⌜ BothMet base (now (w .entry)) (now (w .exit)) n (partKeys (edgesOf kind) (now (cell .entry)))
+        (partKeys (facesOf kind) (now (cell .entry))) r ⌝ }
+    ensures { λ _.
+        ⌜ CellSplit base (now (w .entry)) n kind (now (cell .entry)) own at (now (out .entry)) (now (out .exit)) ⌝ }
+{
+    let mut numbers = [0u32; 27];
+    let more = cell_numbers(w, base, n, kind, cell, own, &mut numbers);
+    children(kind, &numbers, out, at);
+    more
+}
+
+// Splits cell number i of a flat table: its corner numbers are fetched once, and handed on.
+fn split_entry(w: &mut [u32], base: Base, n: Known, kind: kinds::CellKind, cells: &[u32], i: usize, own: usize, out: &mut [u32]) -> Known
+    requires { ⌜ Room base (now w) n (partKeys (edgesOf kind) (entryOf kind (now cells) i)) (partKeys (facesOf kind) (entryOf kind (now cells) i)) ⌝ }
+    requires { ⌜ i < length (now cells) / cornerCount kind ⌝ }
+    requires { ⌜ base .vertices + base .edges + base .faces ≤ 2 ^ 32 ⌝ }
+    requires { ⌜ own < 2 ^ 32 ⌝ }
+    requires { ⌜ cornerCount kind * (cornerCount kind * (i + 1)) ≤ length (now out) ⌝ }
+    ensures { λ r.
+        ⌜ BothMet base (now (w .entry)) (now (w .exit)) n (partKeys (edgesOf kind) (entryOf kind (now (cells .entry)) i))
+        (partKeys (facesOf kind) (entryOf kind (now (cells .entry)) i)) r ⌝ }
+    ensures { λ _.
+        ⌜ CellSplit base (now (w .entry)) n kind (entryOf kind (now (cells .entry)) i) own (cornerCount kind * (cornerCount kind * i))
+        (now (out .entry)) (now (out .exit)) ⌝ }
+{
+    let corners = kinds::corner_count(kind);
+    let at = corners * i;
+    let end = at + corners;
+    let mut cell = [0u32; 8];
+    memory::copy_u32(&cells[at..end], &mut cell);
+    split_cell(w, base, n, kind, &cell[..corners], own, out, corners * at)
 }
