@@ -1,7 +1,7 @@
 -- The parts of each kind of cells, as the numbering has them. Assumes nothing.
 use mathlib.Core.Path.{_≡_, refl}
 use mathlib.Core.List.{List}
-use Prim.Native.Nat.{ℕ, _+_, _≤_}
+use Prim.Native.Nat.{ℕ, _+_, _≤_, _<_}
 use native.Mathlib.Omega.{arith}
 use lib.ListN.{length, length-append, length-map}
 use Rattle.rules.specs.Lists.{concat, upFrom, Key, indexOf}
@@ -68,3 +68,8 @@ pub few-corners : (kind : CellKind) → cornerCount kind ≤ 8
 few-corners Hex = omega arith
 few-corners Quad = omega arith
 few-corners Segment = omega arith
+
+pub some-corners : (kind : CellKind) → 0 < cornerCount kind
+some-corners Hex = omega arith
+some-corners Quad = omega arith
+some-corners Segment = omega arith

@@ -4,3 +4,5 @@ pub mod Tables
 pub mod KindParts
 -- Halves: a list lent in two parts.
 pub mod Halves
+-- Walk: cells walked one after the other.
+pub mod Walk

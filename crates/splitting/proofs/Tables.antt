@@ -4,7 +4,7 @@ use mathlib.Core.List.{List, [], _++_}
 use Prim.Native.Nat.{ℕ, _+_, _*_, _≤_, _<_}
 use native.Mathlib.Omega.{arith}
 use lib.ListN.{length, getD, take, drop, length-map, take-append-drop, List·getD-append}
-use lib.Seq.{sets, length-take-le}
+use lib.Seq.{sets, length-take-le, take-all}
 use Rattle.rules.specs.Lists.{concat, concatMap, overwritten, upFrom, any, has}
 use Rattle.rules.specs.Mesh.{Kind, corners, singles, whole, byDimension, cellParts, firstHolding, smallestTable, placeOf}
 use Rattle.lists.specs.Membership.{In}
@@ -81,6 +81,11 @@ module _ (kind : CellKind) (numbers : List ℕ) (i : ℕ) where
       ap (λ (k : ℕ). sets (sets out at s) (at + k) r) (sym (rows-length (omega arith)))
       ∙ sym (sets-append out at s r)
       ∙ ap (sets out at) (sym (concatMap-turn (picked numbers) rows i [] (omega (arith, table-rows kind))))
+
+pub children-length : (kind : CellKind) (numbers : List ℕ) → length (childCorners (kindOf kind) numbers) ≡ cornerCount kind * cornerCount kind
+unfolding childCorners
+children-length kind numbers =
+    rw (take-all (cornerCount kind) (smallestTable (kindOf kind)) (omega (arith, table-rows kind))) at (rows-length kind numbers (cornerCount kind) (omega arith))
 
 -- ---- what stands behind the numbers is not picked
 

@@ -11,7 +11,7 @@ use Rattle.splitting.specs.declared.kinds.CellKind.{CellKind}
 use Rattle.splitting.specs.declared.cells.Base.{Base}
 use Rattle.splitting.specs.declared.cells.Known.{Known}
 use Rattle.splitting.specs.Kinds.{kindOf, edgesOf, facesOf}
-use Rattle.splitting.specs.Cells.{cellNumbers, childCorners}
+use Rattle.splitting.specs.Cells.{cellsIn, edgesMet, facesMet, cellNumbers, childCorners, firstChildren}
 
 -- the edges' table takes the first 4 E + 1 words, the faces' table the others
 abbrev pub facesAt : Base → ℕ
@@ -55,3 +55,10 @@ CellNumbered base w n kind cell own old new = (es fs : List Key) → new ≡ ove
 abbrev pub CellSplit : Base → List ℕ → Known → CellKind → List ℕ → ℕ → ℕ → List ℕ → List ℕ → Type 0
 CellSplit base w n kind cell own at old new =
     (es fs : List Key) → new ≡ sets old at (childCorners (kindOf kind) (numbersAt base w n kind cell own es fs))
+
+-- the corners of the children of all cells of a table, stored at the front
+abbrev pub TableSplit : Base → List ℕ → Known → CellKind → List ℕ → ℕ → ℕ → List ℕ → List ℕ → Type 0
+TableSplit base w n kind cells own count old new =
+    (es fs : List Key) → new ≡ sets old 0
+    (firstChildren kind (base .vertices) (meetAll (edgesIn base w n) (edgesMet kind (cellsIn kind cells) ++ es)) (base .vertices + base .edges)
+    (meetAll (facesIn base w n) (facesMet kind (cellsIn kind cells) ++ fs)) own cells count)

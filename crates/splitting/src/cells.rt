@@ -13,8 +13,8 @@ ghost use Rattle.rules.specs.Mesh.{smallestTable};
 ghost use Rattle.numbering.specs.Table.{keys, Table};
 ghost use Rattle.numbering.specs.Parts.{placesOf, partCorners, cellCorners, partKeys, Numbered};
 ghost use Rattle.splitting.specs.Kinds.{kindOf, cornerCount, edgesOf, facesOf};
-ghost use Rattle.splitting.specs.Cells.{picked, childCorners, entryOf};
-ghost use Rattle.splitting.specs.Words.{facesAt, edgeWords, faceWords, Room, BothMet, CellNumbered, CellSplit};
+ghost use Rattle.splitting.specs.Cells.{cellsIn, entryOf, edgesMet, facesMet, picked, childCorners};
+ghost use Rattle.splitting.specs.Words.{facesAt, edgeWords, faceWords, Room, BothMet, CellNumbered, CellSplit, TableSplit};
 
 // V, E and F of the mesh: behind the old vertices come those of the edges, then those of the faces.
 pub struct Base {
@@ -192,4 +192,27 @@ fn split_entry(w: &mut [u32], base: Base, n: Known, kind: kinds::CellKind, cells
     let mut cell = [0u32; 8];
     memory::copy_u32(&cells[at..end], &mut cell);
     split_cell(w, base, n, kind, &cell[..corners], own, out, corners * at)
+}
+
+// Splits all cells of a flat table. Their own vertices are numbered from `own` on; only those of hexes are among the children's corners.
+pub fn split_cells(w: &mut [u32], base: Base, n: Known, kind: kinds::CellKind, cells: &[u32], own: usize, out: &mut [u32]) -> Known
+    requires { ⌜ Room base (now w) n (edgesMet kind (cellsIn kind (now cells))) (facesMet kind (cellsIn kind (now cells))) ⌝ }
+    requires { ⌜ base .vertices + base .edges + base .faces ≤ 2 ^ 32 ⌝ }
+    requires { ⌜ own + length (now cells) / cornerCount kind ≤ 2 ^ 32 ⌝ }
+    requires { ⌜ cornerCount kind * (cornerCount kind * (length (now cells) / cornerCount kind)) ≤ length (now out) ⌝ }
+    ensures { λ r.
+        ⌜ BothMet base (now (w .entry)) (now (w .exit)) n (edgesMet kind (cellsIn kind (now (cells .entry))))
+        (facesMet kind (cellsIn kind (now (cells .entry)))) r ⌝ }
+    ensures { λ _.
+        ⌜ TableSplit base (now (w .entry)) n kind (now (cells .entry)) own (length (now (cells .entry)) / cornerCount kind)
+        (now (out .entry)) (now (out .exit)) ⌝ }
+{
+    let count = cells.len() / kinds::corner_count(kind);
+    let mut known = n;
+    let mut i = 0;
+    while i < count {
+        known = split_entry(w, base, known, kind, cells, i, own + i, out);
+        i += 1;
+    }
+    known
 }
