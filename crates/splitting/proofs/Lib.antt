@@ -6,3 +6,5 @@ pub mod KindParts
 pub mod Halves
 -- Walk: cells walked one after the other.
 pub mod Walk
+-- Fine: the children of all cells, in the words of the rules.
+pub mod Fine
