@@ -5,3 +5,5 @@ pub mod Kinds
 pub mod Cells
 -- Words: the tables of the edges and of the faces in the lent words.
 pub mod Words
+-- Ready: what splitting a mesh asks.
+pub mod Ready
