@@ -8,3 +8,5 @@ pub mod Halves
 pub mod Walk
 -- Fine: the children of all cells, in the words of the rules.
 pub mod Fine
+-- Round: the calls of the driver.
+pub mod Round

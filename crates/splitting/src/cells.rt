@@ -2,7 +2,6 @@
 // the edges' table takes the first 4 E + 1, the faces' table the next 6 F + 1.
 use crate::kinds;
 use numbering::parts;
-
 ghost use mathlib.Core.Path.{_≡_};
 ghost use mathlib.Core.List.{[], _++_};
 ghost use Prim.Native.Nat.{_+_, _*_, _/_, _^_, _≤_, _<_};
@@ -59,7 +58,15 @@ fn number_parts(
 }
 
 // Meets the edges of a cell in their table, and writes the numbers of their vertices to `numbers` from `to` on.
-fn number_edges(w: &mut [u32], base: Base, n: usize, kind: kinds::CellKind, cell: &[u32], numbers: &mut [u32], to: usize) -> usize
+fn number_edges(
+    w: &mut [u32],
+    base: Base,
+    n: usize,
+    kind: kinds::CellKind,
+    cell: &[u32],
+    numbers: &mut [u32],
+    to: usize,
+) -> usize
     requires { ⌜ Table 2 (edgeWords base (now w)) (base .edges) n ⌝ }
     requires { ⌜ length (meetAll (keys 2 (edgeWords base (now w)) (base .edges) n) (partKeys (edgesOf kind) (now cell))) ≤ base .edges ⌝ }
     requires { ⌜ length (now cell) ≡ cornerCount kind ⌝ }
@@ -73,11 +80,29 @@ fn number_edges(w: &mut [u32], base: Base, n: usize, kind: kinds::CellKind, cell
     let mut key = [0u32; 2];
     let of = kinds::edges_of(kind);
     let end = 4 * base.edges + 1;
-    number_parts(&mut w[..end], base.edges, n, of, cell, base.vertices, &mut key, numbers, to)
+    number_parts(
+        &mut w[..end],
+        base.edges,
+        n,
+        of,
+        cell,
+        base.vertices,
+        &mut key,
+        numbers,
+        to,
+    )
 }
 
 // The same of the faces, in their table.
-fn number_faces(w: &mut [u32], base: Base, n: usize, kind: kinds::CellKind, cell: &[u32], numbers: &mut [u32], to: usize) -> usize
+fn number_faces(
+    w: &mut [u32],
+    base: Base,
+    n: usize,
+    kind: kinds::CellKind,
+    cell: &[u32],
+    numbers: &mut [u32],
+    to: usize,
+) -> usize
     requires { ⌜ facesAt base ≤ length (now w) ⌝ }
     requires { ⌜ Table 4 (faceWords base (now w)) (base .faces) n ⌝ }
     requires { ⌜ length (meetAll (keys 4 (faceWords base (now w)) (base .faces) n) (partKeys (facesOf kind) (now cell))) ≤ base .faces ⌝ }
@@ -92,12 +117,30 @@ fn number_faces(w: &mut [u32], base: Base, n: usize, kind: kinds::CellKind, cell
     let mut key = [0u32; 4];
     let of = kinds::faces_of(kind);
     let start = 4 * base.edges + 1;
-    number_parts(&mut w[start..], base.faces, n, of, cell, base.vertices + base.edges, &mut key, numbers, to)
+    number_parts(
+        &mut w[start..],
+        base.faces,
+        n,
+        of,
+        cell,
+        base.vertices + base.edges,
+        &mut key,
+        numbers,
+        to,
+    )
 }
 
 // Meets the edges and faces of a cell, and writes the numbers of its fine vertices to the front of `numbers`: its corners, its edges, its
 // faces, its own.
-fn cell_numbers(w: &mut [u32], base: Base, n: Known, kind: kinds::CellKind, cell: &[u32], own: usize, numbers: &mut [u32]) -> Known
+fn cell_numbers(
+    w: &mut [u32],
+    base: Base,
+    n: Known,
+    kind: kinds::CellKind,
+    cell: &[u32],
+    own: usize,
+    numbers: &mut [u32],
+) -> Known
     requires { ⌜ Room base (now w) n (partKeys (edgesOf kind) (now cell)) (partKeys (facesOf kind) (now cell)) ⌝ }
     requires { ⌜ length (now cell) ≡ cornerCount kind ⌝ }
     requires { ⌜ base .vertices + base .edges + base .faces ≤ 2 ^ 32 ⌝ }
@@ -154,7 +197,16 @@ fn children(kind: kinds::CellKind, numbers: &[u32], out: &mut [u32], at: usize)
 }
 
 // Meets a cell, given by its corner numbers, and writes the corners of its children to `out` from `at` on.
-fn split_cell(w: &mut [u32], base: Base, n: Known, kind: kinds::CellKind, cell: &[u32], own: usize, out: &mut [u32], at: usize) -> Known
+fn split_cell(
+    w: &mut [u32],
+    base: Base,
+    n: Known,
+    kind: kinds::CellKind,
+    cell: &[u32],
+    own: usize,
+    out: &mut [u32],
+    at: usize,
+) -> Known
     requires { ⌜ Room base (now w) n (partKeys (edgesOf kind) (now cell)) (partKeys (facesOf kind) (now cell)) ⌝ }
     requires { ⌜ length (now cell) ≡ cornerCount kind ⌝ }
     requires { ⌜ base .vertices + base .edges + base .faces ≤ 2 ^ 32 ⌝ }
@@ -173,7 +225,16 @@ fn split_cell(w: &mut [u32], base: Base, n: Known, kind: kinds::CellKind, cell: 
 }
 
 // Splits cell number i of a flat table: its corner numbers are fetched once, and handed on.
-fn split_entry(w: &mut [u32], base: Base, n: Known, kind: kinds::CellKind, cells: &[u32], i: usize, own: usize, out: &mut [u32]) -> Known
+fn split_entry(
+    w: &mut [u32],
+    base: Base,
+    n: Known,
+    kind: kinds::CellKind,
+    cells: &[u32],
+    i: usize,
+    own: usize,
+    out: &mut [u32],
+) -> Known
     requires { ⌜ Room base (now w) n (partKeys (edgesOf kind) (entryOf kind (now cells) i)) (partKeys (facesOf kind) (entryOf kind (now cells) i)) ⌝ }
     requires { ⌜ i < length (now cells) / cornerCount kind ⌝ }
     requires { ⌜ base .vertices + base .edges + base .faces ≤ 2 ^ 32 ⌝ }
@@ -195,7 +256,15 @@ fn split_entry(w: &mut [u32], base: Base, n: Known, kind: kinds::CellKind, cells
 }
 
 // Splits all cells of a flat table. Their own vertices are numbered from `own` on; only those of hexes are among the children's corners.
-pub fn split_cells(w: &mut [u32], base: Base, n: Known, kind: kinds::CellKind, cells: &[u32], own: usize, out: &mut [u32]) -> Known
+pub fn split_cells(
+    w: &mut [u32],
+    base: Base,
+    n: Known,
+    kind: kinds::CellKind,
+    cells: &[u32],
+    own: usize,
+    out: &mut [u32],
+) -> Known
     requires { ⌜ Room base (now w) n (edgesMet kind (cellsIn kind (now cells))) (facesMet kind (cellsIn kind (now cells))) ⌝ }
     requires { ⌜ base .vertices + base .edges + base .faces ≤ 2 ^ 32 ⌝ }
     requires { ⌜ own + length (now cells) / cornerCount kind ≤ 2 ^ 32 ⌝ }

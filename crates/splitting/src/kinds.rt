@@ -1,7 +1,6 @@
 // The kinds of cells that are split: how many corners, which parts, which smallest parts.
 use numbering::parts;
 use rules::tables;
-
 ghost use mathlib.Core.Path.{_≡_};
 ghost use Prim.Native.Nat.{_<_};
 ghost use Rattle.rules.specs.Mesh.{smallestTable, placeOf};

@@ -4,7 +4,6 @@
 use cells::Base;
 use cells::Known;
 use kinds::CellKind;
-
 ghost use mathlib.Core.Path.{_≡_};
 ghost use Prim.Native.Nat.{_+_, _≤_, _<_, _^_};
 ghost use lib.ListN.{length};
@@ -71,12 +70,25 @@ pub fn split(
         faces: faces,
     };
     prepare_tables(words, base);
-    let none = Known {
-        edges: 0,
-        faces: 0,
-    };
-    let by_hexes = cells::split_cells(words, base, none, CellKind::Hex, hexes, vertices + (edges + faces), out_hexes);
+    let none = Known { edges: 0, faces: 0 };
+    let by_hexes = cells::split_cells(
+        words,
+        base,
+        none,
+        CellKind::Hex,
+        hexes,
+        vertices + (edges + faces),
+        out_hexes,
+    );
     let by_quads = cells::split_cells(words, base, by_hexes, CellKind::Quad, quads, 0, out_quads);
-    cells::split_cells(words, base, by_quads, CellKind::Segment, segments, 0, out_segments);
+    cells::split_cells(
+        words,
+        base,
+        by_quads,
+        CellKind::Segment,
+        segments,
+        0,
+        out_segments,
+    );
     memory::copy_u32(points, out_points);
 }

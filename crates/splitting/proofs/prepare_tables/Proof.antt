@@ -28,8 +28,7 @@ returns c =
     let back = first-back at w p u kept in
     let rest = rest-kept at w p u kept in
     let n = length-take-le at w u in
-    let l : at ≤ length (p ++ drop at w) = rw length-append (omega (arith, kept, n)) in
-    (
+    let l : at ≤ length (p ++ drop at w) = rw length-append (omega (arith, kept, n)) in (
       rw (first-kept at (p ++ drop at w) r l, back, c .before .before .before .before .before .before .prepare .ensures)
           (table-prepared 2 (take at w) (x .base .edges) (omega (arith, n)) (omega (arith, a .pre .1))),
       rw (rest-back at (p ++ drop at w) r l, c .before .before .prepare2 .ensures, rest-whole at (p ++ drop at w), rest)

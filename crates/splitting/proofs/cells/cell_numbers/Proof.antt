@@ -60,8 +60,7 @@ number-faces-requires : tie.Need-number-faces-requires
 number-faces-requires c κs =
     let a = c .before .before .before .before .before .before .before .before .before .before .before .before .before .before .before .before .before .before in
     let r = a .pre .0 in
-    let e = c .before .before .before .before .before .before .before .before .number-edges in
-    (
+    let e = c .before .before .before .before .before .before .before .before .number-edges in (
       omega (arith, inside a, e .kept .0),
       rw (e .ensures .1)
           (r .face-table, (r .faces-fit, (a .pre .1 .0, (a .pre .1 .1 .0, omega (arith, fits a, edge-count (c .before .before), e .kept .1 .1 .1 .1 .1 .0, c .before .before .before .before .before .before .before .before .before .before .before .before .before .copy-u32 .kept .1 .0))))),
@@ -74,8 +73,7 @@ returns c =
     let x = a .args in
     let e = c .before .before .before .before .before .before .before .before .before .before .before .before .before .before .before .number-edges in
     let f = c .before .before .before .before .before .before .number-faces in
-    let cell = x .cell .now in
-    (
+    let cell = x .cell .now in (
       record { edges = rw (f .ensures .1) (e .ensures .0 .met); faces = rw (e .ensures .1) at (f .ensures .0 .met) },
       λ es fs.
           let ds = numbersIn (x .base .vertices) (partKeys (edgesOf (x .kind)) cell) (meetAll (edgesIn (x .base) (x .w .now) (x .n)) (partKeys (edgesOf (x .kind)) cell ++ es)) in

@@ -22,8 +22,7 @@ returns : tie.Need-returns
 returns c =
     let a = c .before .before .before .before .before .before .before .before .before .before .before .before .before .before in
     let x = a .args in
-    let m = c .before .before .before .before .before .before .before .before .cell-numbers in
-    (
+    let m = c .before .before .before .before .before .before .before .before .cell-numbers in (
       m .ensures .0,
       λ es fs.
           let ns = numbersAt (x .base) (x .w .now) (x .n) (x .kind) (x .cell .now) (x .own) es fs in
