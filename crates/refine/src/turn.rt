@@ -34,7 +34,31 @@ fn round(
         let m = mesh (now (xs .entry)) (now (hs .entry)) (now (qs .entry)) (now (ss .entry)) (now (ps .entry)) in
         let old = mesh (now (ox .entry)) (now (oh .entry)) (now (oq .entry)) (now (os .entry)) (now (op .entry)) in
         ⌜ mesh (now (ox .exit)) (now (oh .exit)) (now (oq .exit)) (now (os .exit)) (now (op .exit)) ≡ resultTables 0 old (round m) ⌝ }
-{}
+{
+    let edges = sizes.edges as usize;
+    let faces = sizes.faces as usize;
+    splitting::split(xs, hs, qs, ss, ps, edges, faces, words, oh, oq, os, op);
+    let count = (sizes.vertices + (sizes.edges + (sizes.faces + sizes.hexes))) as usize;
+    let h = 64 * sizes.hexes as usize;
+    let q = 16 * sizes.quads as usize;
+    let s = 4 * sizes.segments as usize;
+    let p = sizes.points as usize;
+    averaging::average(
+        xs,
+        hs,
+        qs,
+        ss,
+        ps,
+        &oh[..h],
+        &oq[..q],
+        &os[..s],
+        &op[..p],
+        count,
+        words,
+        longs,
+        ox,
+    );
+}
 
 // One round, from the mesh of the given sizes at the front of tables.
 fn round_front(
