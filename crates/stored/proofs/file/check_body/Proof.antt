@@ -48,7 +48,7 @@ returns-2 c =
     ∙ sym (spare-bit (body (at-if .before .before)) (at-if .if1 .left) (sym (read .read-field .ensures) ∙ told))
 
 sub-t11 : tie.Need-sub-t11
-sub-t11 c = body (c .before .before .before .before .before .before .before .before) .small .range .some
+sub-t11 c = omega (arith, body (c .before .before .before .before .before .before .before .before) .small .range .some)
 
 read-fields-requires : tie.Need-read-fields-requires
 read-fields-requires c κs =
