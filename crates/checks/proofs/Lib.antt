@@ -3,5 +3,7 @@
 pub mod Scans
 -- ByKind: the checks by table.
 pub mod ByKind
--- Parts: parts of a slice that a call is lent.
-pub mod Parts
+-- Slices: parts of a slice that a call is lent.
+pub mod Slices
+-- WalkLaws: the walk of a mesh by number.
+pub mod WalkLaws

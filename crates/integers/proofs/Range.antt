@@ -7,12 +7,12 @@ use native.Mathlib.Omega.{arith}
 use borrow.Author.Tests.{ltb-false, le-ltb}
 use lib.Dec.{T}
 use lib.IntN.{ℤ, pos, negsuc, natAbs}
-use lib.Signed.{mag, nonNeg}
+use lib.Signed.{mag, nonNeg, _≤ℤ_}
 use mir.Syntax.{Width, w32, w64}
 use mir.Val.{SFits, hbits}
 use Rattle.rules.specs.Refusals.{outside}
 use Rattle.integers.specs.Range.{InRange}
-use Rattle.integers.proofs.Linear.{up, dn, Dif}
+use Rattle.integers.proofs.Linear.{up, dn, Dif, ints}
 
 -- ---- the test says what the statement says
 
@@ -31,6 +31,12 @@ range-parts (negsuc n) h = (omega arith, h)
 pub parts-range : (z : ℤ) → up z < 536_870_912 → dn z ≤ 536_870_912 → InRange z
 parts-range (pos n) h k = h
 parts-range (negsuc n) h k = k
+
+-- ---- as an order
+
+pub range-order : (z : ℤ) → InRange z ↔ ((negsuc 536_870_911 ≤ℤ z) × (z ≤ℤ pos 536_870_911))
+range-order (pos n) = (λ h. (omega ints, omega ints), λ b. omega (ints, b .1))
+range-order (negsuc n) = (λ h. (omega ints, omega ints), λ b. omega (ints, b .0))
 
 -- ---- a number by any difference p - n that it is
 

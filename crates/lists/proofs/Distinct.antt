@@ -230,7 +230,8 @@ meetAll-absent known [] o h = sym (append-nil known)
 meetAll-absent known (k ∷ ks) o h =
     ap (λ (l : List Key). meetAll l ks) (meet-absent k known (h k (inl refl)))
     ∙ meetAll-absent (known ++ (k ∷ [])) ks (o .1)
-    (λ j i n. ⊎-elim (h j (inr i)) (λ (e : In j (k ∷ [])). ⊎-elim (λ (p : j ≡ k). o .0 (subst (λ (z : Key). In z ks) p i)) absurd e) (in-append j known (k ∷ []) n))
+    (λ j i n. ⊎-elim (h j (inr i)) (λ (e : In j (k ∷ [])). ⊎-elim (λ (p : j ≡ k). o .0 (subst (λ (z : Key). In z ks) p i)) absurd e)
+    (in-append j known (k ∷ []) n))
     ∙ append-assoc known (k ∷ []) ks
 
 pub distinct-once : (ks : List Key) → Once ks → distinct ks ≡ ks

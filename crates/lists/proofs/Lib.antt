@@ -1,8 +1,8 @@
 -- Laws of lists.
--- Each: what holds of each element of a list, and what stands at a place of a mapped one.
-pub mod Each
 -- What is in a list: after joining, mapping, choosing; at which place.
 pub mod Membership
+-- What holds of each element of a list.
+pub mod Each
 -- Lists without repeats, and their lengths.
 pub mod Once
 -- Tests over lists decide statements over lists.

@@ -59,10 +59,21 @@ module _ {A : Type 0} where
   unfolding keep
   in-keep p (y ∷ xs) x h = go (p y) refl h (in-keep p xs x)
     where
-      go : (b : Bool) → p y ≡ b → In x (cond b (y ∷ keep p xs) (keep p xs)) → (In x (keep p xs) → In x xs × (p x ≡ true)) → In x (y ∷ xs) × (p x ≡ true)
+      go :
+          (b : Bool) → p y ≡ b → In x (cond b (y ∷ keep p xs) (keep p xs)) → (In x (keep p xs) → In x xs × (p x ≡ true)) →
+          In x (y ∷ xs) × (p x ≡ true)
       go true e (inl q) f = (inl q, ap p q ∙ e)
       go true e (inr k) f = (inr (f k .0), f k .1)
       go false e k f = (inr (f k .0), f k .1)
+
+  pub length-keep : (p : A → Bool) (xs : List A) → length (keep p xs) ≤ length xs
+  unfolding keep
+  length-keep p [] = zero-le
+  length-keep p (x ∷ xs) = go (p x) (length-keep p xs)
+    where
+      go : (b : Bool) → length (keep p xs) ≤ length xs → length (cond b (x ∷ keep p xs) (keep p xs)) ≤ suc (length xs)
+      go true h = suc-le-suc h
+      go false h = omega arith
 
   -- ---- lists joined
 

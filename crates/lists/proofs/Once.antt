@@ -94,7 +94,9 @@ module _ {A B : Type 0} where
   once-source f (x ∷ xs) h = ((λ i. h .0 (map-in f xs x i)), once-source f xs (h .1))
 
   -- lists without repeats, no two of which share an element
-  pub once-concatMap : (f : A → List B) (xs : List A) → Once xs → ((x : A) → In x xs → Once (f x)) → ((x y : A) (z : B) → In x xs → In y xs → In z (f x) → In z (f y) → x ≡ y) → Once (concatMap f xs)
+  pub once-concatMap :
+      (f : A → List B) (xs : List A) → Once xs → ((x : A) → In x xs → Once (f x)) →
+      ((x y : A) (z : B) → In x xs → In y xs → In z (f x) → In z (f y) → x ≡ y) → Once (concatMap f xs)
   unfolding concatMap
   once-concatMap f [] h k d = tt
   once-concatMap f (x ∷ xs) h k d =
@@ -111,10 +113,13 @@ module _ {A B : Type 0} where
   pub concatMap-append : (f : A → List B) (xs ys : List A) → concatMap f (xs ++ ys) ≡ concatMap f xs ++ concatMap f ys
   unfolding concatMap
   concatMap-append f [] ys = refl
-  concatMap-append f (x ∷ xs) ys = ap (λ (l : List B). f x ++ l) (concatMap-append f xs ys) ∙ sym (append-assoc (f x) (concatMap f xs) (concatMap f ys))
+  concatMap-append f (x ∷ xs) ys =
+      ap (λ (l : List B). f x ++ l) (concatMap-append f xs ys) ∙ sym (append-assoc (f x) (concatMap f xs) (concatMap f ys))
 
   -- for each element a source that is good, chosen: the list of the sources
-  pub sources : (f : A → B) (Good : A → Type 0) (ys : List B) → ((y : B) → In y ys → (x : A) × (f x ≡ y) × Good x) → (xs : List A) × (map f xs ≡ ys) × ((x : A) → In x xs → Good x)
+  pub sources :
+      (f : A → B) (Good : A → Type 0) (ys : List B) → ((y : B) → In y ys → (x : A) × (f x ≡ y) × Good x) →
+      (xs : List A) × (map f xs ≡ ys) × ((x : A) → In x xs → Good x)
   sources f Good [] h = ([], refl, λ x i. absurd i)
   sources f Good (y ∷ ys) h =
       let s = h y (inl refl) in

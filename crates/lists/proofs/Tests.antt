@@ -27,6 +27,13 @@ pub is-false : (b : Bool) → (b ≡ true → ⊥) → b ≡ false
 is-false true h = absurd (h refl)
 is-false false h = refl
 
+-- tests that fail together are equal
+pub false-together : (a b : Bool) → (a ≡ false → b ≡ false) → (b ≡ false → a ≡ false) → a ≡ b
+false-together true true f g = refl
+false-together true false f g = g refl
+false-together false true f g = sym (f refl)
+false-together false false f g = refl
+
 pub and-both : (p q : Bool) → (p && q) ≡ true → (p ≡ true) × (q ≡ true)
 and-both true q h = (refl, h)
 and-both false q h = absurd (false≢true h)
@@ -69,7 +76,9 @@ module _ {A : Type 0} where
   any-in p [] h = absurd (false≢true h)
   any-in p (y ∷ xs) h = go (p y) refl h (any-in p xs)
     where
-      go : (b : Bool) → p y ≡ b → (b || any p xs) ≡ true → (any p xs ≡ true → (x : A) × In x xs × (p x ≡ true)) → (x : A) × In x (y ∷ xs) × (p x ≡ true)
+      go :
+          (b : Bool) → p y ≡ b → (b || any p xs) ≡ true → (any p xs ≡ true → (x : A) × In x xs × (p x ≡ true)) →
+          (x : A) × In x (y ∷ xs) × (p x ≡ true)
       go true e k ih = (y, inl refl, e)
       go false e k ih = let r = ih k in (r .0, inr (r .1), r .2)
 
@@ -116,7 +125,9 @@ module _ {A : Type 0} where
   -- one element more is looked at: a loop's turn
   pub any-turn : (p : A → Bool) (xs : List A) (i : ℕ) (d : A) → i < length xs → any p (take (suc i) xs) ≡ (any p (take i xs) || p (getD xs i d))
   unfolding any
-  any-turn p xs i d h = ap (any p) (take-suc xs i d h) ∙ any-append p (take i xs) (getD xs i d ∷ []) ∙ ap (λ (b : Bool). any p (take i xs) || b) (or-false (p (getD xs i d)))
+  any-turn p xs i d h =
+      ap (any p) (take-suc xs i d h) ∙ any-append p (take i xs) (getD xs i d ∷ [])
+      ∙ ap (λ (b : Bool). any p (take i xs) || b) (or-false (p (getD xs i d)))
 
 module _ {A B : Type 0} where
   pub any-map : (p : B → Bool) (f : A → B) (xs : List A) → any p (map f xs) ≡ any (λ (x : A). p (f x)) xs
@@ -143,13 +154,6 @@ not-has x ys h = is-false (has x ys) (λ k. h (has-in x ys k))
 -- ---- repeats, by a test of equality
 
 module _ {A : Type 0} (equal : A → A → Bool) where
-  pub repeats-once : ((x : A) → equal x x ≡ true) → (xs : List A) → repeats equal xs ≡ false → Once xs
-  unfolding repeats
-  repeats-once r [] h = tt
-  repeats-once r (x ∷ xs) h =
-      let b = or-neither (any (equal x) xs) (repeats equal xs) h in
-      ((λ i. false≢true (sym (b .0) ∙ in-any (equal x) xs x i (r x))), repeats-once r xs (b .1))
-
   pub once-repeats : ((x y : A) → equal x y ≡ true → x ≡ y) → (xs : List A) → Once xs → repeats equal xs ≡ false
   unfolding repeats
   once-repeats r [] h = refl
@@ -157,6 +161,13 @@ module _ {A : Type 0} (equal : A → A → Bool) where
       neither-or (any (equal x) xs) (repeats equal xs)
       (is-false (any (equal x) xs) (λ k. let a = any-in (equal x) xs k in h .0 (subst (λ (z : A). In z xs) (sym (r x (a .0) (a .2))) (a .1))))
       (once-repeats r xs (h .1))
+
+  pub repeats-once : ((x : A) → equal x x ≡ true) → (xs : List A) → repeats equal xs ≡ false → Once xs
+  unfolding repeats
+  repeats-once r [] h = tt
+  repeats-once r (x ∷ xs) h =
+      let b = or-neither (any (equal x) xs) (repeats equal xs) h in
+      ((λ i. false≢true (sym (b .0) ∙ in-any (equal x) xs x i (r x))), repeats-once r xs (b .1))
 
 pub repeats-once-numbers : (xs : List ℕ) → repeats eqb xs ≡ false → Once xs
 repeats-once-numbers xs h = repeats-once eqb (λ x. eq-eqb x x refl) xs h

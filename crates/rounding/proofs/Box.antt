@@ -10,7 +10,8 @@ use lib.IntN.{ℤ, pos, _*ℤ_}
 use lib.Signed.{ltZ, _≤ℤ_, ≤ℤ-refl, ltZ-yes, ltZ-no}
 use Rattle.rules.specs.Means.{Mean, Round, noMean, meanOf, coordinate, total, rounded}
 use Rattle.rules.specs.Accuracy.{written, lesser, greater, leastOf, greatestOf, least, greatest}
-use Rattle.lists.proofs.Each.{each-at, map-at}
+use Rattle.lists.proofs.Membership.{getD-map}
+use Rattle.lists.proofs.Each.{each-at}
 use Rattle.integers.proofs.Linear.{≤ℤ-trans, ≤ℤ-of-<}
 use Rattle.integers.proofs.Floor.{floor-lower, floor-upper}
 use Rattle.rounding.specs.Good.{GoodMean, count, GoodRounds}
@@ -43,7 +44,7 @@ unfolding written
 written-between n lo hi [] xs g b v h = b v h
 written-between n lo hi (r ∷ past) xs g b v h =
     let before = written past xs in
-    subst (λ (z : ℤ). Between lo hi z) (sym (map-at (rounded before) r noMean (pos 0) v h))
+    subst (λ (z : ℤ). Between lo hi z) (sym (getD-map (rounded before) r v noMean (pos 0) h))
     (rounded-between (count n past) lo hi before (meanOf r v) (each-at (GoodMean (count n past)) r noMean v (g .0) h) (written-between n lo hi past xs (g .1) b))
 
 -- ---- each coordinate is between the least and the greatest

@@ -9,7 +9,8 @@ use lib.IntN.{ℤ, pos, _*ℤ_}
 use Rattle.rules.specs.Lists.{Each}
 use Rattle.rules.specs.Means.{Round, noMean, meanOf, coordinate, total}
 use Rattle.rules.specs.Accuracy.{common, exactDivisor, unrounded, exact}
-use Rattle.lists.proofs.Each.{each-at, map-at}
+use Rattle.lists.proofs.Membership.{getD-map}
+use Rattle.lists.proofs.Each.{each-at}
 use Rattle.integers.proofs.Linear.{var, _⊗_, by-eq}
 use Rattle.rounding.specs.Good.{GoodMean, count, GoodRounds}
 
@@ -70,6 +71,6 @@ exact-mean n r past xs v g h =
     let k = factor r v in
     let q = exactDivisor past in
     let T = total (meanOf r v .draws) (coordinate (exact past xs)) in
-    ap (λ (z : ℤ). pos (d * q) *ℤ z) (map-at (unrounded (common r) (exact past xs)) r noMean (pos 0) v h)
+    ap (λ (z : ℤ). pos (d * q) *ℤ z) (getD-map (unrounded (common r) (exact past xs)) r v noMean (pos 0) h)
     ∙ by-eq ((d * q) ⊗ (k ⊗ var T)) ((d * k * q) ⊗ var T) (omega arith)
     ∙ ap (λ (c : ℕ). pos (c * q) *ℤ T) (factor-is (count n past) r v (g .0) h)

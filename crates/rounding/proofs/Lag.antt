@@ -8,7 +8,8 @@ use lib.ListN.{length}
 use lib.IntN.{ℤ, pos, _+ℤ_, _*ℤ_}
 use Rattle.rules.specs.Means.{Round, noMean, meanOf, floorDiv, floorMod, coordinate, total, rounded, remainder}
 use Rattle.rules.specs.Accuracy.{written, common, exactDivisor, unrounded, exact}
-use Rattle.lists.proofs.Each.{each-at, map-at}
+use Rattle.lists.proofs.Membership.{getD-map}
+use Rattle.lists.proofs.Each.{each-at}
 use Rattle.integers.proofs.Linear.{var, nat, _⊕_, _⊗_, by-eq, of-eq}
 use Rattle.integers.proofs.Floor.{floorMod-lt, floor-split}
 use Rattle.rounding.specs.Good.{GoodMean, count, GoodRounds}
@@ -59,10 +60,10 @@ module _ (n : ℕ) (xs : List ℤ) where
       let l = lag (r ∷ past) xs v in
       let f = floorDiv (total (m .draws) W) (m .divisor) in
       let e = total-line (count n past) q N W (lag past xs) (m .draws) (good .each) (exact-is past (g .1)) in
-      map-at (unrounded (common r) (exact past xs)) r noMean (pos 0) v h
+      getD-map (unrounded (common r) (exact past xs)) r v noMean (pos 0) h
       ∙ mean-lag q (factor r v) (m .divisor) (natTotal (m .draws) (lag past xs)) (total (m .draws) N) (total (m .draws) W) (good .some) e
       ∙ ap (λ (c : ℕ). pos (c * q) *ℤ f +ℤ pos l) (factor-is (count n past) r v (g .0) h)
-      ∙ ap (λ (z : ℤ). pos (common r * q) *ℤ z +ℤ pos l) (sym (map-at (rounded (written past xs)) r noMean (pos 0) v h))
+      ∙ ap (λ (z : ℤ). pos (common r * q) *ℤ z +ℤ pos l) (sym (getD-map (rounded (written past xs)) r v noMean (pos 0) h))
 
   -- the lag is below as many units as there were rounds
   pub lag-below : (rs : List Round) → GoodRounds n rs → (v : ℕ) → v < count n rs → lag rs xs v ≤ length rs * exactDivisor rs - 1

@@ -3,14 +3,14 @@
 use mathlib.Core.Path.{_≡_, refl}
 use mathlib.Core.Logic.{_⊎_, inl, inr}
 use mathlib.Core.List.{List, [], _∷_, map}
-use Prim.Native.Nat.{ℕ, _*_, _^_}
+use Prim.Native.Nat.{ℕ, _*_, _^_, _<_}
 use lib.ListN.{length, getD}
 use Rattle.rules.specs.Lists.{any, concat, upFrom, has, same}
 use Rattle.rules.specs.Mesh.{Kind, hex, quad, segment, point, kinds, corners, whole, singles, quadEdges, byDimension, places, cellParts, firstHolding, smallest}
 use Rattle.rules.specs.Split.{cornersAt}
 use Rattle.lists.specs.Membership.{In, Once}
 use Rattle.lists.proofs.Once.{once-upFrom}
-use Rattle.lists.proofs.Decide.{computed, decEither, decBoth, decIf, decEach, decSome, keepIf, keepIf-in, in-keepIf, once-keepIf, decNumber, decKey, decIn, decOnce}
+use Rattle.lists.proofs.Decide.{computed, decEither, decBoth, decIf, decEach, decSome, keepIf, keepIf-in, in-keepIf, once-keepIf, decNumber, decBelow, decKey, decIn, decOnce}
 
 -- ---- over the four kinds
 
@@ -90,7 +90,10 @@ once-part = computed (decKinds (λ (κ : Kind). decEach (decOnce decNumber) (cel
 -- of two parts of one size neither lies in the other
 pub only : (κ : Kind) (p : List ℕ) → In p (cellParts κ) → (q : List ℕ) → In q (cellParts κ) → Within q p → length q ≡ length p → q ≡ p
 unfolding same cellParts byDimension singles whole upFrom concat
-only = computed (decKinds (λ (κ : Kind). decEach (λ (p : List ℕ). decEach (λ (q : List ℕ). decIf (within? q p) (decIf (decNumber (length q) (length p)) (decKey q p))) (cellParts κ)) (cellParts κ))) tt
+only =
+    computed (decKinds (λ (κ : Kind). decEach
+    (λ (p : List ℕ). decEach (λ (q : List ℕ). decIf (within? q p) (decIf (decNumber (length q) (length p)) (decKey q p))) (cellParts κ))
+    (cellParts κ))) tt
 
 pub dimension-of : (κ : Kind) (p : List ℕ) → In p (cellParts κ) → (d : ℕ) × In d dimensions × In p (places κ d)
 unfolding same places cellParts byDimension singles whole upFrom concat
@@ -104,9 +107,13 @@ pub size : (κ : Kind) (d : ℕ) → In d dimensions → (r : List ℕ) → In r
 unfolding places byDimension singles whole upFrom
 size = computed (decKinds (λ (κ : Kind). decEach (λ (d : ℕ). decEach (λ (r : List ℕ). decNumber (length r) (2 ^ d)) (places κ d)) dimensions)) tt
 
-pub count-below : (κ : Kind) (d : ℕ) → In d dimensions → (r : List ℕ) → In r (places κ d) → (k : ℕ) → In k dimensions → length (subs κ k r) ≡ below k d
+pub count-below :
+    (κ : Kind) (d : ℕ) → In d dimensions → (r : List ℕ) → In r (places κ d) → (k : ℕ) → In k dimensions → length (subs κ k r) ≡ below k d
 unfolding subs keepIf places cellParts byDimension singles whole upFrom concat
-count-below = computed (decKinds (λ (κ : Kind). decEach (λ (d : ℕ). decEach (λ (r : List ℕ). decEach (λ (k : ℕ). decNumber (length (subs κ k r)) (below k d)) dimensions) (places κ d)) dimensions)) tt
+count-below =
+    computed (decKinds (λ (κ : Kind). decEach
+    (λ (d : ℕ). decEach (λ (r : List ℕ). decEach (λ (k : ℕ). decNumber (length (subs κ k r)) (below k d)) dimensions)
+    (places κ d)) dimensions)) tt
 
 -- the size decides the dimension
 pub power : (a : ℕ) → In a dimensions → (b : ℕ) → In b dimensions → 2 ^ a ≡ 2 ^ b → a ≡ b
@@ -117,11 +124,16 @@ abbrev pub Lying : Kind → ℕ → List ℕ → List ℕ → Type 0
 Lying κ d r q = (q ≡ r) ⊎ (((j : ℕ) × In j (whole κ) × (q ≡ j ∷ [])) ⊎ (((d ≡ 2) × (length q ≡ 2)) ⊎ (d ≡ 3)))
 
 abbrev lying? : (κ : Kind) (d : ℕ) (r q : List ℕ) → Dec (Lying κ d r q)
-lying? κ d r q = decEither (decKey q r) (decEither (decSome (λ (j : ℕ). decKey q (j ∷ [])) (whole κ)) (decEither (decBoth (decNumber d 2) (decNumber (length q) 2)) (decNumber d 3)))
+lying? κ d r q =
+    decEither (decKey q r) (decEither (decSome (λ (j : ℕ). decKey q (j ∷ [])) (whole κ))
+    (decEither (decBoth (decNumber d 2) (decNumber (length q) 2)) (decNumber d 3)))
 
 pub lying : (κ : Kind) (d : ℕ) → In d dimensions → (r : List ℕ) → In r (places κ d) → (q : List ℕ) → In q (cellParts κ) → Within q r → Lying κ d r q
 unfolding same places cellParts byDimension singles whole upFrom concat
-lying = computed (decKinds (λ (κ : Kind). decEach (λ (d : ℕ). decEach (λ (r : List ℕ). decEach (λ (q : List ℕ). decIf (within? q r) (lying? κ d r q)) (cellParts κ)) (places κ d)) dimensions)) tt
+lying =
+    computed (decKinds (λ (κ : Kind). decEach
+    (λ (d : ℕ). decEach (λ (r : List ℕ). decEach (λ (q : List ℕ). decIf (within? q r) (lying? κ d r q)) (cellParts κ))
+    (places κ d)) dimensions)) tt
 
 -- only a hex has a part of dimension 3, and that is the whole
 pub solid : (κ : Kind) (r : List ℕ) → In r (places κ 3) → (κ ≡ hex) × (r ≡ whole κ)
@@ -152,47 +164,86 @@ step-in = computed (decKinds (λ (κ : Kind). decEach (λ (r : List ℕ). decEac
 
 pub step-once : (κ : Kind) (r : List ℕ) → In r (places κ 2) → (e : List ℕ) → In e quadEdges → Once (cornersAt r e)
 unfolding places byDimension singles whole upFrom cornersAt
-step-once = computed (decKinds (λ (κ : Kind). decEach (λ (r : List ℕ). decEach (λ (e : List ℕ). decOnce decNumber (cornersAt r e)) quadEdges) (places κ 2))) tt
+step-once =
+    computed (decKinds (λ (κ : Kind). decEach (λ (r : List ℕ). decEach (λ (e : List ℕ). decOnce decNumber (cornersAt r e)) quadEdges)
+    (places κ 2))) tt
 
-pub step-edge : (κ : Kind) (r : List ℕ) → In r (places κ 2) → (e : List ℕ) → In e quadEdges → (q : List ℕ) × In q (cellParts κ) × Same (cornersAt r e) q
+pub step-edge :
+    (κ : Kind) (r : List ℕ) → In r (places κ 2) → (e : List ℕ) → In e quadEdges → (q : List ℕ) × In q (cellParts κ) × Same (cornersAt r e) q
 unfolding places cellParts byDimension singles whole upFrom concat cornersAt
-step-edge = computed (decKinds (λ (κ : Kind). decEach (λ (r : List ℕ). decEach (λ (e : List ℕ). decSome (λ (q : List ℕ). same? (cornersAt r e) q) (cellParts κ)) quadEdges) (places κ 2))) tt
+step-edge =
+    computed (decKinds (λ (κ : Kind). decEach
+    (λ (r : List ℕ). decEach (λ (e : List ℕ). decSome (λ (q : List ℕ). same? (cornersAt r e) q) (cellParts κ)) quadEdges) (places κ 2))) tt
 
-pub edge-step : (κ : Kind) (r : List ℕ) → In r (places κ 2) → (q : List ℕ) → In q (cellParts κ) → Within q r → length q ≡ 2 → (e : List ℕ) × In e quadEdges × Same q (cornersAt r e)
+pub edge-step :
+    (κ : Kind) (r : List ℕ) → In r (places κ 2) → (q : List ℕ) → In q (cellParts κ) → Within q r → length q ≡ 2 →
+    (e : List ℕ) × In e quadEdges × Same q (cornersAt r e)
 unfolding places cellParts byDimension singles whole upFrom concat cornersAt
-edge-step = computed (decKinds (λ (κ : Kind). decEach (λ (r : List ℕ). decEach (λ (q : List ℕ). decIf (within? q r) (decIf (decNumber (length q) 2) (decSome (λ (e : List ℕ). same? q (cornersAt r e)) quadEdges))) (cellParts κ)) (places κ 2))) tt
+edge-step =
+    computed (decKinds (λ (κ : Kind). decEach
+    (λ (r : List ℕ). decEach (λ (q : List ℕ). decIf (within? q r)
+    (decIf (decNumber (length q) 2) (decSome (λ (e : List ℕ). same? q (cornersAt r e)) quadEdges))) (cellParts κ)) (places κ 2))) tt
 
 -- ---- the children of a cell, by its parts
 
 pub smallest-part : (κ : Kind) (i : ℕ) → In i (whole κ) → (j : ℕ) → In j (whole κ) → In (smallest κ i j) (cellParts κ)
 unfolding same cellParts byDimension singles whole upFrom concat has any smallest firstHolding
-smallest-part = computed (decKinds (λ (κ : Kind). decEach (λ (i : ℕ). decEach (λ (j : ℕ). part? (smallest κ i j) (cellParts κ)) (whole κ)) (whole κ))) tt
+smallest-part =
+    computed (decKinds (λ (κ : Kind). decEach (λ (i : ℕ). decEach (λ (j : ℕ). part? (smallest κ i j) (cellParts κ)) (whole κ))
+    (whole κ))) tt
+
+-- and its number among the cell's parts is below their count
+pub smallest-below : (κ : Kind) (i : ℕ) → In i (whole κ) → (j : ℕ) → In j (whole κ) → firstHolding i j (cellParts κ) < length (cellParts κ)
+unfolding cellParts byDimension singles whole upFrom concat has any firstHolding
+smallest-below =
+    computed (decKinds (λ (κ : Kind). decEach
+    (λ (i : ℕ). decEach (λ (j : ℕ). decBelow (firstHolding i j (cellParts κ)) (length (cellParts κ))) (whole κ)) (whole κ))) tt
 
 -- each part is the smallest for two corners
 pub reached : (κ : Kind) (r : List ℕ) → In r (cellParts κ) → (i : ℕ) × In i (whole κ) × ((j : ℕ) × In j (whole κ) × (smallest κ i j ≡ r))
 unfolding same cellParts byDimension singles whole upFrom concat has any smallest firstHolding
-reached = computed (decKinds (λ (κ : Kind). decEach (λ (r : List ℕ). decSome (λ (i : ℕ). decSome (λ (j : ℕ). decKey (smallest κ i j) r) (whole κ)) (whole κ)) (cellParts κ))) tt
+reached =
+    computed (decKinds (λ (κ : Kind). decEach
+    (λ (r : List ℕ). decSome (λ (i : ℕ). decSome (λ (j : ℕ). decKey (smallest κ i j) r) (whole κ)) (whole κ)) (cellParts κ))) tt
 
 -- l is all that lies between two parts, k dimensions apart
 abbrev pub Interval : Kind → ℕ → List (List ℕ) → Type 0
 Interval κ k l = Once l × ((p : List ℕ) × In p l × ((r : List ℕ) × In r l × (Within p r × (Above k p r × Same l (between κ p r)))))
 
 abbrev interval? : (κ : Kind) (k : ℕ) (l : List (List ℕ)) → Dec (Interval κ k l)
-interval? κ k l = decBoth (decOnce decKey l) (decSome (λ (p : List ℕ). decSome (λ (r : List ℕ). decBoth (within? p r) (decBoth (above? k p r) (parts? l (between κ p r)))) l) l)
+interval? κ k l =
+    decBoth (decOnce decKey l) (decSome
+    (λ (p : List ℕ). decSome (λ (r : List ℕ). decBoth (within? p r) (decBoth (above? k p r) (parts? l (between κ p r)))) l) l)
 
-pub child-interval : (κ : Kind) (k : ℕ) → In k dimensions → (i : ℕ) → In i (whole κ) → (ps : List ℕ) → In ps (places κ k) → Interval κ k (map (smallest κ i) ps)
+pub child-interval :
+    (κ : Kind) (k : ℕ) → In k dimensions → (i : ℕ) → In i (whole κ) → (ps : List ℕ) → In ps (places κ k) →
+    Interval κ k (map (smallest κ i) ps)
 unfolding same between keepIf places cellParts byDimension singles whole upFrom concat has any smallest firstHolding
-child-interval = computed (decKinds (λ (κ : Kind). decEach (λ (k : ℕ). decEach (λ (i : ℕ). decEach (λ (ps : List ℕ). interval? κ k (map (smallest κ i) ps)) (places κ k)) (whole κ)) dimensions)) tt
+child-interval =
+    computed (decKinds (λ (κ : Kind). decEach
+    (λ (k : ℕ). decEach (λ (i : ℕ). decEach (λ (ps : List ℕ). interval? κ k (map (smallest κ i) ps)) (places κ k))
+    (whole κ)) dimensions)) tt
 
 -- and the other way round: all that lies between two parts is a part of a child
-pub child-part : (κ : Kind) (k : ℕ) → In k dimensions → (r : List ℕ) → In r (cellParts κ) → (p : List ℕ) → In p (subs κ k r) → (i : ℕ) × In i (whole κ) × ((ps : List ℕ) × In ps (places κ k) × Same (map (smallest κ i) ps) (between κ p r))
+pub child-part :
+    (κ : Kind) (k : ℕ) → In k dimensions → (r : List ℕ) → In r (cellParts κ) → (p : List ℕ) → In p (subs κ k r) →
+    (i : ℕ) × In i (whole κ) × ((ps : List ℕ) × In ps (places κ k) × Same (map (smallest κ i) ps) (between κ p r))
 unfolding same subs between keepIf places cellParts byDimension singles whole upFrom concat has any smallest firstHolding
-child-part = computed (decKinds (λ (κ : Kind). decEach (λ (k : ℕ). decEach (λ (r : List ℕ). decEach (λ (p : List ℕ). decSome (λ (i : ℕ). decSome (λ (ps : List ℕ). parts? (map (smallest κ i) ps) (between κ p r)) (places κ k)) (whole κ)) (subs κ k r)) (cellParts κ)) dimensions)) tt
+child-part =
+    computed (decKinds (λ (κ : Kind). decEach
+    (λ (k : ℕ). decEach (λ (r : List ℕ). decEach
+    (λ (p : List ℕ). decSome (λ (i : ℕ). decSome (λ (ps : List ℕ). parts? (map (smallest κ i) ps) (between κ p r)) (places κ k)) (whole κ))
+    (subs κ k r)) (cellParts κ)) dimensions)) tt
 
 -- the whole of child i is all that holds corner i
-pub whole-child : (κ : Kind) (i : ℕ) → In i (whole κ) → Once (map (smallest κ i) (whole κ)) × Same (map (smallest κ i) (whole κ)) (between κ (i ∷ []) (whole κ))
+pub whole-child :
+    (κ : Kind) (i : ℕ) → In i (whole κ) →
+    Once (map (smallest κ i) (whole κ)) × Same (map (smallest κ i) (whole κ)) (between κ (i ∷ []) (whole κ))
 unfolding same between keepIf cellParts byDimension singles whole upFrom concat has any smallest firstHolding
-whole-child = computed (decKinds (λ (κ : Kind). decEach (λ (i : ℕ). decBoth (decOnce decKey (map (smallest κ i) (whole κ))) (parts? (map (smallest κ i) (whole κ)) (between κ (i ∷ []) (whole κ)))) (whole κ))) tt
+whole-child =
+    computed (decKinds (λ (κ : Kind). decEach
+    (λ (i : ℕ). decBoth (decOnce decKey (map (smallest κ i) (whole κ)))
+    (parts? (map (smallest κ i) (whole κ)) (between κ (i ∷ []) (whole κ)))) (whole κ))) tt
 
 -- Going round a face of a child, neighbours are one dimension apart, and those one dimension apart are neighbours.
 -- The two of l at the places of e:
@@ -217,11 +268,14 @@ abbrev neighbours? : (l : List (List ℕ)) → Dec (Neighbours l)
 neighbours? l =
     decBoth
     (decEach (λ (e : List ℕ). decEither (above? 1 (first l e) (second l e)) (above? 1 (second l e) (first l e))) quadEdges)
-    (decEach (λ (a : List ℕ). decEach (λ (b : List ℕ). decIf (above? 1 a b) (decSome (λ (e : List ℕ). decEither (at? l a b e) (at? l b a e)) quadEdges)) l) l)
+    (decEach (λ (a : List ℕ). decEach
+    (λ (b : List ℕ). decIf (above? 1 a b) (decSome (λ (e : List ℕ). decEither (at? l a b e) (at? l b a e)) quadEdges)) l) l)
 
 pub neighbours : (κ : Kind) (i : ℕ) → In i (whole κ) → (ps : List ℕ) → In ps (places κ 2) → Neighbours (map (smallest κ i) ps)
 unfolding same places cellParts byDimension singles whole upFrom concat has any smallest firstHolding
-neighbours = computed (decKinds (λ (κ : Kind). decEach (λ (i : ℕ). decEach (λ (ps : List ℕ). neighbours? (map (smallest κ i) ps)) (places κ 2)) (whole κ))) tt
+neighbours =
+    computed (decKinds (λ (κ : Kind). decEach (λ (i : ℕ). decEach (λ (ps : List ℕ). neighbours? (map (smallest κ i) ps)) (places κ 2))
+    (whole κ))) tt
 
 -- ---- membership of `between` and `subs`
 

@@ -34,7 +34,9 @@ childAt t κ c i = child (parts t) κ c i
 
 -- ---- the parts met
 
-pub in-met : (t : Topology) (d : ℕ) (y : List ℕ) → In y (met t d) → (x : CellOf t) × (p : List ℕ) × In p (places (x .kind) d) × (y ≡ cornersAt (x .cell) p)
+pub in-met :
+    (t : Topology) (d : ℕ) (y : List ℕ) → In y (met t d) →
+    (x : CellOf t) × (p : List ℕ) × In p (places (x .kind) d) × (y ≡ cornersAt (x .cell) p)
 unfolding met
 in-met t d y h =
     let a = in-concatMap (λ (κ : Kind). concatMap (λ (c : List ℕ). map (cornersAt c) (places κ d)) (cellsOf t κ)) kinds y h in
@@ -45,11 +47,14 @@ in-met t d y h =
 pub met-in : (t : Topology) (d : ℕ) (x : CellOf t) (p : List ℕ) → In p (places (x .kind) d) → In (cornersAt (x .cell) p) (met t d)
 unfolding met
 met-in t d x p h =
-    concatMap-in (λ (κ : Kind). concatMap (λ (c : List ℕ). map (cornersAt c) (places κ d)) (cellsOf t κ)) kinds (x .kind) (cornersAt (x .cell) p) (every (x .kind))
+    concatMap-in (λ (κ : Kind). concatMap (λ (c : List ℕ). map (cornersAt c) (places κ d)) (cellsOf t κ)) kinds (x .kind)
+    (cornersAt (x .cell) p) (every (x .kind))
     (concatMap-in (λ (c : List ℕ). map (cornersAt c) (places (x .kind) d)) (cellsOf t (x .kind)) (x .cell) (cornersAt (x .cell) p) (x .listed)
     (map-in (cornersAt (x .cell)) (places (x .kind) d) p h))
 
-pub in-parts : (t : Topology) (d : ℕ) (y : Key) → In y (distinctParts t d) → (x : CellOf t) × (p : List ℕ) × In p (places (x .kind) d) × (y ≡ keyAt (x .cell) p)
+pub in-parts :
+    (t : Topology) (d : ℕ) (y : Key) → In y (distinctParts t d) →
+    (x : CellOf t) × (p : List ℕ) × In p (places (x .kind) d) × (y ≡ keyAt (x .cell) p)
 unfolding distinctParts keyAt
 in-parts t d y h =
     let a = in-map keyOf (met t d) y (in-distinct (map keyOf (met t d)) y h) in
@@ -157,7 +162,8 @@ in-tops t y i =
 pub once-tops : (t : Topology) → Once (tops t)
 once-tops t =
     once-append (distinctParts t 1) (distinctParts t 2 ++ distinctParts t 3) (once-parts-of t 1)
-    (once-append (distinctParts t 2) (distinctParts t 3) (once-parts-of t 2) (once-parts-of t 3) (λ y i j. omega (arith, at 2 (inr (inl refl)) y i, at 3 (inr (inr (inl refl))) y j)))
+    (once-append (distinctParts t 2) (distinctParts t 3) (once-parts-of t 2) (once-parts-of t 3)
+    (λ y i j. omega (arith, at 2 (inr (inl refl)) y i, at 3 (inr (inr (inl refl))) y j)))
     (λ y i j.
     ⊎-elim
     (λ (k : In y (distinctParts t 2)). omega (arith, at 1 (inl refl) y i, at 2 (inr (inl refl)) y k))

@@ -1,6 +1,6 @@
 -- The tests 4 to 8 of the rules decide what Sound states, and checks 1 to 8 let through just the accepted meshes. Assumes nothing.
-use mathlib.Core.Path.{_≡_, refl, sym, ap, subst}
-use mathlib.Core.Bool.{Bool, true, false, not}
+use mathlib.Core.Path.{_≡_, refl, sym, ap, _∙_, subst}
+use mathlib.Core.Bool.{Bool, true, false, not, _&&_}
 use mathlib.Core.List.{List, map}
 use Prim.Native.Nat.{ℕ, _<_, zero-le}
 use native.Mathlib.Omega.{arith}
@@ -34,44 +34,35 @@ mesh-sized m quad c i = length-entry 4 (m .quads) c i
 mesh-sized m segment c i = length-entry 2 (m .segments) c i
 mesh-sized m point c i = length-entry 1 (m .points) c i
 
+-- some neighbours in f are none in g: the test, and what it means that it fails
+unfoldable pub astray : List ℕ → List ℕ → Bool
+astray f g = any (λ (e : Key). not (any (same e) (ring g))) (ring f)
+
+pub ring-kept : (f g : List ℕ) → astray f g ≡ false → (e : Key) → In e (ring f) → In e (ring g)
+unfolding astray
+ring-kept f g h e i = any-key e (ring g) (not-false (any (same e) (ring g)) (none-in (λ (e : Key). not (any (same e) (ring g))) (ring f) h e i))
+
+pub kept-ring : (f g : List ℕ) → ((e : Key) → In e (ring f) → In e (ring g)) → astray f g ≡ false
+unfolding astray
+kept-ring f g h = in-none (λ (e : Key). not (any (same e) (ring g))) (ring f) (λ e i. ap not (key-any e (ring g) (h e i)))
+
+pub mismatched-is : (f g : List ℕ) → mismatched f g ≡ (same (keyOf f) (keyOf g) && astray f g)
+unfolding mismatched astray
+mismatched-is f g = refl
+
 module _ (t : Topology) where
   -- a test of each cell
-  none-cells : (test : List ℕ → Bool) → any (λ (κ : Kind). any test (cellsOf t κ)) kinds ≡ false → (κ : Kind) (c : List ℕ) → In c (cellsOf t κ) → test c ≡ false
+  pub none-cells :
+      (test : List ℕ → Bool) → any (λ (κ : Kind). any test (cellsOf t κ)) kinds ≡ false → (κ : Kind) (c : List ℕ) → In c (cellsOf t κ) →
+      test c ≡ false
   none-cells test h κ c i = none-in test (cellsOf t κ) (none-in (λ (κ : Kind). any test (cellsOf t κ)) kinds h κ (every κ)) c i
 
-  cells-none : (test : List ℕ → Bool) → ((κ : Kind) (c : List ℕ) → In c (cellsOf t κ) → test c ≡ false) → any (λ (κ : Kind). any test (cellsOf t κ)) kinds ≡ false
+  cells-none :
+      (test : List ℕ → Bool) → ((κ : Kind) (c : List ℕ) → In c (cellsOf t κ) → test c ≡ false) →
+      any (λ (κ : Kind). any test (cellsOf t κ)) kinds ≡ false
   cells-none test h = in-none (λ (κ : Kind). any test (cellsOf t κ)) kinds (λ κ i. in-none test (cellsOf t κ) (h κ))
 
-  -- ---- from the tests to the statement
-
-  module _ (z : Sized t) where
-    placed-below : (κ : Kind) (c : List ℕ) → In c (cellsOf t κ) → (j : ℕ) → In j (whole κ) → j < length c
-    placed-below κ c i j k = omega (arith, z κ c i, whole-below κ j k)
-
-    pub tests-sound : cornerOutOfRange t ≡ false → repeatedCorner t ≡ false → duplicateCell t ≡ false → mismatchedFace t ≡ false → isolatedVertex t ≡ false → Sound t
-    unfolding cornerOutOfRange repeatedCorner duplicateCell mismatched mismatchedFace isolatedVertex
-    tests-sound h₄ h₅ h₆ h₇ h₈ = record {
-      sized = z;
-      known = λ κ c i j k.
-          leb-false (t .vertexCount) (corner c j)
-          (none-in (leb (t .vertexCount)) c (none-cells (any (leb (t .vertexCount))) h₄ κ c i) (corner c j) (getD-in c j 0 (placed-below κ c i j k)));
-      unfolded = λ κ c i a b j k e.
-          once-place c 0 (repeats-once-numbers c (none-cells (repeats eqb) h₅ κ c i)) a b (placed-below κ c i a j) (placed-below κ c i b k) e;
-      undoubled = λ κ. repeats-once-keys (map keyOf (cellsOf t κ)) (none-in (λ (κ : Kind). repeats same (map keyOf (cellsOf t κ))) kinds h₆ κ (every κ));
-      matched = λ f g i j e k l.
-          let h = none-in (mismatched f) (met t 2) (none-in (λ (f : List ℕ). any (mismatched f) (met t 2)) (met t 2) h₇ f i) g j in
-          let n = none-in (λ (e : Key). not (any (same e) (ring g))) (ring f) (and-false (same (keyOf f) (keyOf g)) (any (λ (e : Key). not (any (same e) (ring g))) (ring f)) h (eq-same (keyOf f) (keyOf g) e)) k l in
-          any-key k (ring g) (not-false (any (same k) (ring g)) n);
-      held = λ v l.
-          let h = none-in (λ (v : ℕ). not (any (λ (κ : Kind). any (has v) (cellsOf t κ)) kinds)) (upFrom 0 (t .vertexCount)) h₈ v (upFrom-in 0 (t .vertexCount) v zero-le (omega arith)) in
-          let q = any-in (λ (κ : Kind). any (has v) (cellsOf t κ)) kinds (not-false (any (λ (κ : Kind). any (has v) (cellsOf t κ)) kinds) h) in
-          let r = any-in (has v) (cellsOf t (q .0)) (q .2) in
-          let p = in-getD (r .0) v 0 (has-in v (r .0) (r .2)) in
-          let b : p .0 < corners (q .0) = omega (arith, p .1, z (q .0) (r .0) (r .1)) in
-          record { kind = q .0; cell = r .0; place = p .0; listed = r .1; placed = below-whole (q .0) (p .0) b; is = sym (p .2) };
-    }
-
-  -- ---- and back
+  -- ---- from the statement to the tests
 
   module _ (s : Sound t) where
     below-placed : (κ : Kind) (c : List ℕ) → In c (cellsOf t κ) → (j : ℕ) → j < length c → In j (whole κ)
@@ -94,16 +85,17 @@ module _ (t : Topology) where
 
     pub no-duplicate-cell : duplicateCell t ≡ false
     unfolding duplicateCell
-    no-duplicate-cell = in-none (λ (κ : Kind). repeats same (map keyOf (cellsOf t κ))) kinds (λ κ i. once-repeats-keys (map keyOf (cellsOf t κ)) (s .undoubled κ))
+    no-duplicate-cell =
+        in-none (λ (κ : Kind). repeats same (map keyOf (cellsOf t κ))) kinds
+        (λ κ i. once-repeats-keys (map keyOf (cellsOf t κ)) (s .undoubled κ))
 
     pub no-mismatched-face : mismatchedFace t ≡ false
-    unfolding mismatchedFace mismatched
+    unfolding mismatchedFace
     no-mismatched-face =
         in-none (λ (f : List ℕ). any (mismatched f) (met t 2)) (met t 2)
         (λ f i. in-none (mismatched f) (met t 2)
-        (λ g j. false-and (same (keyOf f) (keyOf g)) (any (λ (e : Key). not (any (same e) (ring g))) (ring f))
-        (λ e. in-none (λ (e : Key). not (any (same e) (ring g))) (ring f)
-        (λ k l. ap not (key-any k (ring g) (s .matched f g i j (same-eq (keyOf f) (keyOf g) e) k l))))))
+        (λ g j. mismatched-is f g ∙ false-and (same (keyOf f) (keyOf g)) (astray f g)
+        (λ e. kept-ring f g (s .matched f g i j (same-eq (keyOf f) (keyOf g) e)))))
 
     pub no-isolated-vertex : isolatedVertex t ≡ false
     unfolding isolatedVertex
@@ -116,6 +108,40 @@ module _ (t : Topology) where
         (in-any (λ (κ : Kind). any (has v) (cellsOf t κ)) kinds (h .kind) (every (h .kind))
         (in-any (has v) (cellsOf t (h .kind)) (h .cell) (h .listed)
         (in-has v (h .cell) (subst (λ (z : ℕ). In z (h .cell)) (sym (h .is)) (getD-in (h .cell) (h .place) 0 l))))))
+
+  -- ---- and back
+
+  module _ (z : Sized t) where
+    pub placed-below : (κ : Kind) (c : List ℕ) → In c (cellsOf t κ) → (j : ℕ) → In j (whole κ) → j < length c
+    placed-below κ c i j k = omega (arith, z κ c i, whole-below κ j k)
+
+    pub tests-sound :
+        cornerOutOfRange t ≡ false → repeatedCorner t ≡ false → duplicateCell t ≡ false → mismatchedFace t ≡ false →
+        isolatedVertex t ≡ false → Sound t
+    unfolding cornerOutOfRange repeatedCorner duplicateCell mismatchedFace isolatedVertex
+    tests-sound h₄ h₅ h₆ h₇ h₈ = record {
+      sized = z;
+      known = λ κ c i j k.
+          leb-false (t .vertexCount) (corner c j)
+          (none-in (leb (t .vertexCount)) c (none-cells (any (leb (t .vertexCount))) h₄ κ c i) (corner c j) (getD-in c j 0 (placed-below κ c i j k)));
+      unfolded = λ κ c i a b j k e.
+          once-place c 0 (repeats-once-numbers c (none-cells (repeats eqb) h₅ κ c i)) a b (placed-below κ c i a j) (placed-below κ c i b k) e;
+      undoubled =
+          λ κ. repeats-once-keys (map keyOf (cellsOf t κ))
+          (none-in (λ (κ : Kind). repeats same (map keyOf (cellsOf t κ))) kinds h₆ κ (every κ));
+      matched = λ f g i j e.
+          let h = none-in (mismatched f) (met t 2) (none-in (λ (f : List ℕ). any (mismatched f) (met t 2)) (met t 2) h₇ f i) g j in
+          ring-kept f g (and-false (same (keyOf f) (keyOf g)) (astray f g) (sym (mismatched-is f g) ∙ h) (eq-same (keyOf f) (keyOf g) e));
+      held = λ v l.
+          let h =
+          none-in (λ (v : ℕ). not (any (λ (κ : Kind). any (has v) (cellsOf t κ)) kinds)) (upFrom 0 (t .vertexCount)) h₈ v
+          (upFrom-in 0 (t .vertexCount) v zero-le (omega arith)) in
+          let q = any-in (λ (κ : Kind). any (has v) (cellsOf t κ)) kinds (not-false (any (λ (κ : Kind). any (has v) (cellsOf t κ)) kinds) h) in
+          let r = any-in (has v) (cellsOf t (q .0)) (q .2) in
+          let p = in-getD (r .0) v 0 (has-in v (r .0) (r .2)) in
+          let b : p .0 < corners (q .0) = omega (arith, p .1, z (q .0) (r .0) (r .1)) in
+          record { kind = q .0; cell = r .0; place = p .0; listed = r .1; placed = below-whole (q .0) (p .0) b; is = sym (p .2) };
+    }
 
 -- ---- checks 1 to 8 of a mesh
 
@@ -152,5 +178,11 @@ checks-accept m h =
 pub accepted-passes : (m : Mesh) → Accepted m → (later : ℕ) → meshChecks m later ≡ later
 unfolding meshChecks tableChecks
 accepted-passes m a later =
-    rw
-    (a .entire, a .counted, a .near, no-corner-out-of-range (topology m) (a .sound), no-repeated-corner (topology m) (a .sound), no-duplicate-cell (topology m) (a .sound), no-mismatched-face (topology m) (a .sound), no-isolated-vertex (topology m) (a .sound))
+    let t = topology m in
+    let s = a .sound in
+    let h₄ = no-corner-out-of-range t s in
+    let h₅ = no-repeated-corner t s in
+    let h₆ = no-duplicate-cell t s in
+    let h₇ = no-mismatched-face t s in
+    let h₈ = no-isolated-vertex t s in
+    rw (a .entire, a .counted, a .near, h₄, h₅, h₆, h₇, h₈)

@@ -88,13 +88,16 @@ module _ (t : Topology) (s : Sound t) where
       length-concatMap (block k) (below k d) (T d) (λ g h. length-block k i d j g (topsOf t d .2 g h))
       ∙ ap (λ (n : ℕ). below k d * n) (sym (length-map (T d) (topKey t)) ∙ ap length (topsOf t d .1))
 
-  length-listed : (k : ℕ) → In k upper → length (listed k) ≡ below k 1 * length (distinctParts t 1) + (below k 2 * length (distinctParts t 2) + below k 3 * length (distinctParts t 3))
+  length-listed :
+      (k : ℕ) → In k upper →
+      length (listed k) ≡ below k 1 * length (distinctParts t 1) + (below k 2 * length (distinctParts t 2) + below k 3 * length (distinctParts t 3))
   unfolding listed allTops
   length-listed k i =
       let a = length-of k i 1 (inl refl) in
       let b = length-of k i 2 (inr (inl refl)) in
       let c = length-of k i 3 (inr (inr (inl refl))) in
-      ap length (concatMap-append (block k) (T 1) (T 2 ++ T 3) ∙ ap (λ (l : List Key). concatMap (block k) (T 1) ++ l) (concatMap-append (block k) (T 2) (T 3)))
+      ap length (concatMap-append (block k) (T 1) (T 2 ++ T 3)
+      ∙ ap (λ (l : List Key). concatMap (block k) (T 1) ++ l) (concatMap-append (block k) (T 2) (T 3)))
       ∙ length-append (concatMap (block k) (T 1)) (concatMap (block k) (T 2) ++ concatMap (block k) (T 3))
       ∙ ap (λ (n : ℕ). length (concatMap (block k) (T 1)) + n) (length-append (concatMap (block k) (T 2)) (concatMap (block k) (T 3)))
       ∙ cc
@@ -104,7 +107,10 @@ module _ (t : Topology) (s : Sound t) where
   its-part : (g : Top t) → In g allTops → In (g .its) (cellParts (g .at .kind))
   its-part g i = let a = top-of g i in is-part (g .at .kind) (a .0) (inr (a .1)) (g .its) (a .2)
 
-  same-ends : (g g′ : Top t) → In g allTops → In g′ allTops → (k : ℕ) (p q : List ℕ) → In p (subs (g .at .kind) k (g .its)) → In q (subs (g′ .at .kind) k (g′ .its)) → fineKey t (g .at) p (g .its) ≡ fineKey t (g′ .at) q (g′ .its) → (keyAt (g .at .cell) p ≡ keyAt (g′ .at .cell) q) × (topKey t g ≡ topKey t g′)
+  same-ends :
+      (g g′ : Top t) → In g allTops → In g′ allTops → (k : ℕ) (p q : List ℕ) → In p (subs (g .at .kind) k (g .its)) →
+      In q (subs (g′ .at .kind) k (g′ .its)) → fineKey t (g .at) p (g .its) ≡ fineKey t (g′ .at) q (g′ .its) →
+      (keyAt (g .at .cell) p ≡ keyAt (g′ .at .cell) q) × (topKey t g ≡ topKey t g′)
   same-ends g g′ i j k p q pi qi e =
       let a = in-subs (g .at .kind) k (g .its) p pi in
       let b = in-subs (g′ .at .kind) k (g′ .its) q qi in
@@ -114,7 +120,8 @@ module _ (t : Topology) (s : Sound t) where
   unfolding block
   once-block k g i =
       once-map (λ (p : List ℕ). fineKey t (g .at) p (g .its)) (subs (g .at .kind) k (g .its)) (once-subs (g .at .kind) k (g .its))
-      (λ p q pi qi e. key-inj t s (g .at) p q (in-subs (g .at .kind) k (g .its) p pi .0) (in-subs (g .at .kind) k (g .its) q qi .0) (same-ends g g i i k p q pi qi e .0))
+      (λ p q pi qi e. key-inj t s (g .at) p q (in-subs (g .at .kind) k (g .its) p pi .0) (in-subs (g .at .kind) k (g .its) q qi .0)
+      (same-ends g g i i k p q pi qi e .0))
 
   once-listed : (k : ℕ) → Once (listed k)
   unfolding listed block
@@ -147,11 +154,16 @@ module _ (t : Topology) (s : Sound t) where
   -- something lies below a part only if it is no corner
   not-corner : (k : ℕ) → In k upper → (d n : ℕ) → In d dimensions → 2 ^ k * n ≡ 2 ^ d → In d upper
   not-corner k i d n (inr j) e = j
-  not-corner k (inl p) d n (inl q) e = let f : 2 * n ≡ 1 = ap (λ (k : ℕ). 2 ^ k * n) (sym p) ∙ e ∙ ap (λ (d : ℕ). 2 ^ d) q in absurd (omega (arith, f))
-  not-corner k (inr (inl p)) d n (inl q) e = let f : 4 * n ≡ 1 = ap (λ (k : ℕ). 2 ^ k * n) (sym p) ∙ e ∙ ap (λ (d : ℕ). 2 ^ d) q in absurd (omega (arith, f))
-  not-corner k (inr (inr (inl p))) d n (inl q) e = let f : 8 * n ≡ 1 = ap (λ (k : ℕ). 2 ^ k * n) (sym p) ∙ e ∙ ap (λ (d : ℕ). 2 ^ d) q in absurd (omega (arith, f))
+  not-corner k (inl p) d n (inl q) e =
+      let f : 2 * n ≡ 1 = ap (λ (k : ℕ). 2 ^ k * n) (sym p) ∙ e ∙ ap (λ (d : ℕ). 2 ^ d) q in absurd (omega (arith, f))
+  not-corner k (inr (inl p)) d n (inl q) e =
+      let f : 4 * n ≡ 1 = ap (λ (k : ℕ). 2 ^ k * n) (sym p) ∙ e ∙ ap (λ (d : ℕ). 2 ^ d) q in absurd (omega (arith, f))
+  not-corner k (inr (inr (inl p))) d n (inl q) e =
+      let f : 8 * n ≡ 1 = ap (λ (k : ℕ). 2 ^ k * n) (sym p) ∙ e ∙ ap (λ (d : ℕ). 2 ^ d) q in absurd (omega (arith, f))
 
-  fine-listed : (k : ℕ) → In k upper → (x : CellOf t) (p r : List ℕ) → In p (cellParts (x .kind)) → In r (cellParts (x .kind)) → Within p r → 2 ^ k * length p ≡ length r → In (fineKey t x p r) (listed k)
+  fine-listed :
+      (k : ℕ) → In k upper → (x : CellOf t) (p r : List ℕ) → In p (cellParts (x .kind)) → In r (cellParts (x .kind)) → Within p r →
+      2 ^ k * length p ≡ length r → In (fineKey t x p r) (listed k)
   unfolding listed block
   fine-listed k ki x p r pi ri h l =
       let a = dimension-of (x .kind) r ri in
@@ -162,7 +174,8 @@ module _ (t : Topology) (s : Sound t) where
       let n : length (g .its) ≡ length r = sym (length-part (g .at .cell) (g .its)) ∙ ap length (sym (b .2)) ∙ length-part (x .cell) r in
       let e = same-dimension g (b .1) d (a .1) (n ∙ size (x .kind) d (a .1) r (a .2)) in
       let c = transfer t s x (g .at) d (a .1) r (a .2) (g .its) e (b .2) p pi h in
-      let o : length (c .0 .its) ≡ length p = sym (length-part (g .at .cell) (c .0 .its)) ∙ ap length (sym (c .0 .same-key)) ∙ length-part (x .cell) p in
+      let o : length (c .0 .its) ≡ length p =
+      sym (length-part (g .at .cell) (c .0 .its)) ∙ ap length (sym (c .0 .same-key)) ∙ length-part (x .cell) p in
       subst (λ (y : Key). In y (concatMap (block k) allTops)) (sym (c .1))
       (concatMap-in (block k) allTops g (fineKey t (g .at) (c .0 .its) (g .its)) (b .1)
       (map-in (λ (p : List ℕ). fineKey t (g .at) p (g .its)) (subs (g .at .kind) k (g .its)) (c .0 .its)
@@ -188,10 +201,14 @@ module _ (t : Topology) (s : Sound t) where
       let r = v .1 .2 .0 in
       let o = v .1 .2 .2 in
       let e : keyAt (childAt t κ (c .parent) n) ps ≡ fineKey t x p r = child-key t s x n ps p r w (v .0) (o .1 .1) in
-      let f = smallest-parts t s x n ps (c .placed) w in
+      let f = smallest-parts κ n ps (c .placed) w in
       subst (λ (y : Key). In y (listed k)) (sym (a .3 ∙ ap (λ (c : List ℕ). keyAt c ps) (c .is) ∙ e))
       (fine-listed k ki x p r (f p (v .1 .1)) (f r (v .1 .2 .1)) (o .0) (o .1 .0))
 
   -- The count of the distinct parts of dimension k of the split.
-  pub count-parts : (k : ℕ) → In k upper → length (distinctParts (split t) k) ≡ below k 1 * length (distinctParts t 1) + (below k 2 * length (distinctParts t 2) + below k 3 * length (distinctParts t 3))
-  count-parts k i = length-same (distinctParts (split t) k) (listed k) (once-parts-of (split t) k) (once-listed k) (met-listed k i) (listed-met k i) ∙ length-listed k i
+  pub count-parts :
+      (k : ℕ) → In k upper →
+      length (distinctParts (split t) k) ≡ below k 1 * length (distinctParts t 1) + (below k 2 * length (distinctParts t 2) + below k 3 * length (distinctParts t 3))
+  count-parts k i =
+      length-same (distinctParts (split t) k) (listed k) (once-parts-of (split t) k) (once-listed k) (met-listed k i) (listed-met k i)
+      ∙ length-listed k i

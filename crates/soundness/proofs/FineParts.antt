@@ -31,6 +31,32 @@ inside-key c p q h z i =
     let r = in-part c p z i in
     subst (λ (w : ℕ). In w (keyAt c q)) (sym (r .2)) (part-in c q (r .0) (h (r .0) (r .1)))
 
+-- ---- a child of a cell, with any numbering
+
+module _ (numbered : List Key) (κ : Kind) (c : List ℕ) where
+  pub corner-child : (i j : ℕ) → In j (whole κ) → corner (child numbered κ c i) j ≡ fineVertex numbered c (smallest κ i j)
+  unfolding child whole
+  corner-child i j h =
+      getD-run (λ (j : ℕ). fineVertex numbered c (smallest κ i j)) 0 0 (corners κ) j (omega (arith, in-upFrom 0 (corners κ) j h))
+      ∙ ap (λ (j : ℕ). fineVertex numbered c (smallest κ i j)) (zero-add j)
+
+  pub corners-child :
+      (i : ℕ) (ps : List ℕ) → ((j : ℕ) → In j ps → In j (whole κ)) →
+      cornersAt (child numbered κ c i) ps ≡ map (fineVertex numbered c) (map (smallest κ i) ps)
+  unfolding cornersAt
+  corners-child i ps w =
+      map-same (corner (child numbered κ c i)) (λ (j : ℕ). fineVertex numbered c (smallest κ i j)) ps (λ j h. corner-child i j (w j h))
+      ∙ sym (map-map (fineVertex numbered c) (smallest κ i) ps)
+
+pub smallest-parts :
+    (κ : Kind) (i : ℕ) (ps : List ℕ) → In i (whole κ) → ((j : ℕ) → In j ps → In j (whole κ)) → (q : List ℕ) → In q (map (smallest κ i) ps) →
+    In q (cellParts κ)
+smallest-parts κ i ps h w q k =
+    let r = in-map (smallest κ i) ps q k in
+    subst (λ (z : List ℕ). In z (cellParts κ)) (sym (r .2)) (smallest-part κ i h (r .0) (w (r .0) (r .1)))
+
+-- ---- parts of the fine mesh
+
 -- a part of the fine mesh: the fine vertices of all that lies between two parts of a cell
 unfoldable pub fineKey : (t : Topology) → CellOf t → List ℕ → List ℕ → Key
 fineKey t x p r = keyOf (map (fine t (x .cell)) (between (x .kind) p r))
@@ -49,32 +75,42 @@ module _ (t : Topology) (s : Sound t) where
           let f : keyAt (x .cell) p ≡ v ∷ [] = ap (keyAt (x .cell)) (q .2) ∙ one-key (x .cell) (q .0) in
           in-left (keyAt (x .cell) p) (singles (t .vertexCount)) (tops t)
           (subst (λ (z : Key). In z (singles (t .vertexCount))) (sym f)
-          (map-in (λ (j : ℕ). j ∷ []) (upFrom 0 (t .vertexCount)) v (upFrom-in 0 (t .vertexCount) v zero-le (omega (arith, s .known (x .kind) (x .cell) (x .listed) (q .0) (q .1))))))
+          (map-in (λ (j : ℕ). j ∷ []) (upFrom 0 (t .vertexCount)) v
+          (upFrom-in 0 (t .vertexCount) v zero-le (omega (arith, s .known (x .kind) (x .cell) (x .listed) (q .0) (q .1))))))
       go d (inr u) j = in-right (keyAt (x .cell) p) (singles (t .vertexCount)) (tops t) (tops-in t d u (keyAt (x .cell) p) (parts-in t d x p j))
 
   -- the fine vertex decides the part
-  pub fine-eq : (x y : CellOf t) (p q : List ℕ) → In p (cellParts (x .kind)) → In q (cellParts (y .kind)) → fine t (x .cell) p ≡ fine t (y .cell) q → keyAt (x .cell) p ≡ keyAt (y .cell) q
+  pub fine-eq :
+      (x y : CellOf t) (p q : List ℕ) → In p (cellParts (x .kind)) → In q (cellParts (y .kind)) → fine t (x .cell) p ≡ fine t (y .cell) q →
+      keyAt (x .cell) p ≡ keyAt (y .cell) q
   unfolding fineVertex
   fine-eq x y p q i j e =
       sym (at-index (keyAt (x .cell) p) (parts t) (part-known x p i))
       ∙ ap (λ (n : ℕ). getD (parts t) n []) e
       ∙ at-index (keyAt (y .cell) q) (parts t) (part-known y q j)
 
-  pub key-inside : (x : CellOf t) (p q : List ℕ) → In p (cellParts (x .kind)) → In q (cellParts (x .kind)) → ((z : ℕ) → In z (keyAt (x .cell) p) → In z (keyAt (x .cell) q)) → Within p q
+  pub key-inside :
+      (x : CellOf t) (p q : List ℕ) → In p (cellParts (x .kind)) → In q (cellParts (x .kind)) →
+      ((z : ℕ) → In z (keyAt (x .cell) p) → In z (keyAt (x .cell) q)) → Within p q
   key-inside x p q i j h =
       λ a k.
       let r = in-part (x .cell) q (corner (x .cell) a) (h (corner (x .cell) a) (part-in (x .cell) p a k)) in
-      let e : a ≡ r .0 = s .unfolded (x .kind) (x .cell) (x .listed) a (r .0) (placed (x .kind) p i a k) (placed (x .kind) q j (r .0) (r .1)) (r .2) in
+      let e : a ≡ r .0 =
+      s .unfolded (x .kind) (x .cell) (x .listed) a (r .0) (placed (x .kind) p i a k) (placed (x .kind) q j (r .0) (r .1)) (r .2) in
       subst (λ (w : ℕ). In w q) (sym e) (r .1)
 
-  pub key-inj : (x : CellOf t) (p q : List ℕ) → In p (cellParts (x .kind)) → In q (cellParts (x .kind)) → keyAt (x .cell) p ≡ keyAt (x .cell) q → p ≡ q
+  pub key-inj :
+      (x : CellOf t) (p q : List ℕ) → In p (cellParts (x .kind)) → In q (cellParts (x .kind)) → keyAt (x .cell) p ≡ keyAt (x .cell) q →
+      p ≡ q
   key-inj x p q i j e =
       only (x .kind) q j p i
       (key-inside x p q i j (λ z k. subst (λ (w : Key). In z w) e k))
       (sym (length-part (x .cell) p) ∙ ap length e ∙ length-part (x .cell) q)
 
   -- two lists of the same places
-  pub part-ext : (x : CellOf t) (p q : List ℕ) → ((j : ℕ) → In j p → In j (whole (x .kind))) → Once p → Once q → Same p q → keyAt (x .cell) p ≡ keyAt (x .cell) q
+  pub part-ext :
+      (x : CellOf t) (p q : List ℕ) → ((j : ℕ) → In j p → In j (whole (x .kind))) → Once p → Once q → Same p q →
+      keyAt (x .cell) p ≡ keyAt (x .cell) q
   unfolding keyAt cornersAt
   part-ext x p q w h k v =
       key-ext (cornersAt (x .cell) p) (cornersAt (x .cell) q)
@@ -83,13 +119,13 @@ module _ (t : Topology) (s : Sound t) where
       (map-within (corner (x .cell)) p q (v .0))
       (map-within (corner (x .cell)) q p (v .1))
 
-  -- ---- parts of the fine mesh
-
   pub once-fine : (x : CellOf t) (l : List (List ℕ)) → ((q : List ℕ) → In q l → In q (cellParts (x .kind))) → Once l → Once (map (fine t (x .cell)) l)
   once-fine x l w h = once-map (fine t (x .cell)) l h (λ p q i j e. key-inj x p q (w p i) (w q j) (fine-eq x x p q (w p i) (w q j) e))
 
   -- a list of the same parts
-  pub fine-ext : (x : CellOf t) (p r : List ℕ) (l : List (List ℕ)) → Once l → Same l (between (x .kind) p r) → keyOf (map (fine t (x .cell)) l) ≡ fineKey t x p r
+  pub fine-ext :
+      (x : CellOf t) (p r : List ℕ) (l : List (List ℕ)) → Once l → Same l (between (x .kind) p r) →
+      keyOf (map (fine t (x .cell)) l) ≡ fineKey t x p r
   unfolding fineKey
   fine-ext x p r l h v =
       key-ext (map (fine t (x .cell)) l) (map (fine t (x .cell)) (between (x .kind) p r))
@@ -98,25 +134,9 @@ module _ (t : Topology) (s : Sound t) where
       (map-within (fine t (x .cell)) l (between (x .kind) p r) (v .0))
       (map-within (fine t (x .cell)) (between (x .kind) p r) l (v .1))
 
-  -- child i of a cell
-  pub corner-child : (x : CellOf t) (i j : ℕ) → In j (whole (x .kind)) → corner (childAt t (x .kind) (x .cell) i) j ≡ fine t (x .cell) (smallest (x .kind) i j)
-  unfolding child whole
-  corner-child x i j h =
-      getD-run (λ (j : ℕ). fine t (x .cell) (smallest (x .kind) i j)) 0 0 (corners (x .kind)) j (omega (arith, in-upFrom 0 (corners (x .kind)) j h))
-      ∙ ap (λ (j : ℕ). fine t (x .cell) (smallest (x .kind) i j)) (zero-add j)
-
-  pub corners-child : (x : CellOf t) (i : ℕ) (ps : List ℕ) → ((j : ℕ) → In j ps → In j (whole (x .kind))) → cornersAt (childAt t (x .kind) (x .cell) i) ps ≡ map (fine t (x .cell)) (map (smallest (x .kind) i) ps)
-  unfolding cornersAt
-  corners-child x i ps w =
-      map-same (corner (childAt t (x .kind) (x .cell) i)) (λ (j : ℕ). fine t (x .cell) (smallest (x .kind) i j)) ps (λ j h. corner-child x i j (w j h))
-      ∙ sym (map-map (fine t (x .cell)) (smallest (x .kind) i) ps)
-
-  pub smallest-parts : (x : CellOf t) (i : ℕ) (ps : List ℕ) → In i (whole (x .kind)) → ((j : ℕ) → In j ps → In j (whole (x .kind))) → (q : List ℕ) → In q (map (smallest (x .kind) i) ps) → In q (cellParts (x .kind))
-  smallest-parts x i ps h w q k =
-      let r = in-map (smallest (x .kind) i) ps q k in
-      subst (λ (z : List ℕ). In z (cellParts (x .kind))) (sym (r .2)) (smallest-part (x .kind) i h (r .0) (w (r .0) (r .1)))
-
   -- a list of places that stands for all between p and r
-  pub child-key : (x : CellOf t) (i : ℕ) (ps p r : List ℕ) → ((j : ℕ) → In j ps → In j (whole (x .kind))) → Once (map (smallest (x .kind) i) ps) → Same (map (smallest (x .kind) i) ps) (between (x .kind) p r) → keyAt (childAt t (x .kind) (x .cell) i) ps ≡ fineKey t x p r
+  pub child-key :
+      (x : CellOf t) (i : ℕ) (ps p r : List ℕ) → ((j : ℕ) → In j ps → In j (whole (x .kind))) → Once (map (smallest (x .kind) i) ps) →
+      Same (map (smallest (x .kind) i) ps) (between (x .kind) p r) → keyAt (childAt t (x .kind) (x .cell) i) ps ≡ fineKey t x p r
   unfolding keyAt
-  child-key x i ps p r w h v = ap keyOf (corners-child x i ps w) ∙ fine-ext x p r (map (smallest (x .kind) i) ps) h v
+  child-key x i ps p r w h v = ap keyOf (corners-child (parts t) (x .kind) (x .cell) i ps w) ∙ fine-ext x p r (map (smallest (x .kind) i) ps) h v

@@ -21,3 +21,9 @@ pub mod SplitSizes
 pub mod Checks
 -- Meshes, round after round.
 pub mod Rounds
+-- A face's neighbours in going round are decided by what is across one corner.
+pub mod Opposite
+-- Check 7 by keys and one more number a face.
+pub mod Across
+-- A mesh with cells of each kind, to which the laws apply.
+pub mod Instance

@@ -8,16 +8,17 @@ use native.Mathlib.Nat.{zero-add}
 use native.Mathlib.Omega.{arith}
 use lib.ListN.{length, getD, length-map}
 use Rattle.rules.specs.Lists.{any, concat, concatMap, upFrom, has, Key, keyOf, indexOf, distinct}
-use Rattle.rules.specs.Mesh.{hex, point, whole, singles, hexEdges, hexFaces, byDimension, places, cellParts, firstHolding, smallest, Topology}
+use Rattle.rules.specs.Mesh.{Kind, hex, quad, segment, point, corners, whole, singles, byDimension, places, cellParts, firstHolding, smallest, smallestTable, placeOf, Topology}
 use Rattle.rules.specs.Split.{cornersAt, keyAt, met, distinctParts, edges, faces, parts, fineVertex, child}
 use Rattle.lists.specs.Membership.{In}
 use Rattle.lists.proofs.Membership.{in-map, map-same, length-upFrom, getD-run, getD-in, getD-map}
 use Rattle.lists.proofs.Once.{once-map, once-upFrom}
 use Rattle.lists.proofs.Distinct.{index-at, index-left, index-right, distinct-once}
 use Rattle.soundness.specs.Sound.{corner, Sound}
-use Rattle.soundness.specs.Numbers.{start}
-use Rattle.soundness.proofs.CellParts.{power}
-use Rattle.soundness.proofs.Cells.{CellOf, fine, childAt, parts-in, one-key, corners-whole, key-whole, part-size, upper, tops}
+use Rattle.soundness.specs.Numbers.{start, numberOf}
+use Rattle.soundness.proofs.CellParts.{power, smallest-below}
+use Rattle.soundness.proofs.Cells.{CellOf, fine, childAt, parts-in, one-key, whole-below, corners-whole, key-whole, part-size, upper, tops}
+use Rattle.soundness.proofs.FineParts.{corner-child}
 
 -- ---- a few parts as tables name them
 
@@ -25,17 +26,12 @@ pub is-hex : In (whole hex) (places hex 3)
 unfolding places byDimension
 is-hex = inl refl
 
-is-place : (j : ℕ) → In j (upFrom 0 8) → In j (whole hex)
-unfolding whole
-is-place j i = i
-
-is-edge : (p : List ℕ) → In p hexEdges → In p (places hex 1)
-unfolding places byDimension
-is-edge p i = i
-
-is-face : (p : List ℕ) → In p hexFaces → In p (places hex 2)
-unfolding places byDimension
-is-face p i = i
+by-dimension : (κ : Kind) → cellParts κ ≡ singles (corners κ) ++ (places κ 1 ++ (places κ 2 ++ places κ 3))
+unfolding cellParts places byDimension singles upFrom concat
+by-dimension hex = refl
+by-dimension quad = refl
+by-dimension segment = refl
+by-dimension point = refl
 
 module _ {A : Type 0} where
   concatMap-one : (f : A → Key) (xs : List A) → concatMap (λ (x : A). f x ∷ []) xs ≡ map f xs
@@ -52,6 +48,25 @@ pub length-singles : (n : ℕ) → length (singles n) ≡ n
 unfolding singles
 length-singles n = length-map (upFrom 0 n) (λ (v : ℕ). v ∷ []) ∙ length-upFrom 0 n
 
+-- ---- the children of a cell, from the fine vertices of its parts
+
+-- With any numbering: corner j of child i is the fine vertex of the part whose number stands in row i and column j of the table.
+pub child-stored :
+    (numbered : List Key) (κ : Kind) (c : List ℕ) (i j : ℕ) → In i (whole κ) → In j (whole κ) →
+    corner (child numbered κ c i) j ≡ getD (map (fineVertex numbered c) (cellParts κ)) (placeOf (smallestTable κ) i j) 0
+unfolding smallest smallestTable whole
+child-stored numbered κ c i j h k =
+    let n = firstHolding i j (cellParts κ) in
+    let row = map (λ (j : ℕ). firstHolding i j (cellParts κ)) (whole κ) in
+    let e : getD (smallestTable κ) i [] ≡ row =
+    getD-run (λ (i : ℕ). map (λ (j : ℕ). firstHolding i j (cellParts κ)) (whole κ)) [] 0 (corners κ) i (whole-below κ i h)
+    ∙ ap (λ (i : ℕ). map (λ (j : ℕ). firstHolding i j (cellParts κ)) (whole κ)) (zero-add i) in
+    let f : getD row j 0 ≡ n =
+    getD-run (λ (j : ℕ). firstHolding i j (cellParts κ)) 0 0 (corners κ) j (whole-below κ j k) ∙ ap (λ (j : ℕ). firstHolding i j (cellParts κ)) (zero-add j) in
+    corner-child numbered κ c i j k
+    ∙ sym (getD-map (fineVertex numbered c) (cellParts κ) n [] 0 (smallest-below κ i h j k))
+    ∙ ap (λ (p : ℕ). getD (map (fineVertex numbered c) (cellParts κ)) p 0) (sym (ap (λ (l : List ℕ). getD l j 0) e ∙ f))
+
 -- ---- old vertices
 
 -- in any topology, the key of a vertex is numbered as the vertex
@@ -59,10 +74,14 @@ pub number-vertex : (t : Topology) (v : ℕ) → v < t .vertexCount → indexOf 
 unfolding parts singles
 number-vertex t v l =
     let n = length-singles (t .vertexCount) in
-    let e : getD (singles (t .vertexCount)) v [] ≡ v ∷ [] = getD-run (λ (v : ℕ). v ∷ []) [] 0 (t .vertexCount) v l ∙ ap (λ (v : ℕ). v ∷ []) (zero-add v) in
-    index-left (v ∷ []) (singles (t .vertexCount)) (tops t) (subst (λ (k : Key). In k (singles (t .vertexCount))) e (getD-in (singles (t .vertexCount)) v [] (omega arith)))
+    let e : getD (singles (t .vertexCount)) v [] ≡ v ∷ [] =
+    getD-run (λ (v : ℕ). v ∷ []) [] 0 (t .vertexCount) v l ∙ ap (λ (v : ℕ). v ∷ []) (zero-add v) in
+    index-left (v ∷ []) (singles (t .vertexCount)) (tops t)
+    (subst (λ (k : Key). In k (singles (t .vertexCount))) e (getD-in (singles (t .vertexCount)) v [] (omega arith)))
     ∙ ap (λ (k : Key). indexOf k (singles (t .vertexCount))) (sym e)
-    ∙ index-at (singles (t .vertexCount)) (once-map (λ (v : ℕ). v ∷ []) (upFrom 0 (t .vertexCount)) (once-upFrom 0 (t .vertexCount)) (λ a b p q e. head-eq-of-cons-eq e)) v (omega arith)
+    ∙ index-at (singles (t .vertexCount))
+    (once-map (λ (v : ℕ). v ∷ []) (upFrom 0 (t .vertexCount)) (once-upFrom 0 (t .vertexCount)) (λ a b p q e. head-eq-of-cons-eq e)) v
+    (omega arith)
 
 -- ---- edges, faces and hexes
 
@@ -96,19 +115,34 @@ module _ (t : Topology) (k : Key) (d : ℕ) (di : In d upper) (i : In k (distinc
   number-at : (e : ℕ) → In e upper → d ≡ e → indexOf k (parts t) ≡ start t e + indexOf k (distinctParts t e)
   number-at e (inl r) q =
       subst (λ (e : ℕ). indexOf k (parts t) ≡ start t e + indexOf k (distinctParts t e)) (sym r)
-      (at ∙ ap (λ (z : ℕ). t .vertexCount + z) (index-left k (edges t) (faces t ++ distinctParts t 3) (subst (λ (e : ℕ). In k (distinctParts t e)) (q ∙ r) i)))
+      (at ∙ ap (λ (z : ℕ). t .vertexCount + z)
+      (index-left k (edges t) (faces t ++ distinctParts t 3) (subst (λ (e : ℕ). In k (distinctParts t e)) (q ∙ r) i)))
   number-at e (inr (inl r)) q =
       subst (λ (e : ℕ). indexOf k (parts t) ≡ start t e + indexOf k (distinctParts t e)) (sym r)
-      (omega (arith, at, no-edge (λ w. omega arith), index-left k (faces t) (distinctParts t 3) (subst (λ (e : ℕ). In k (distinctParts t e)) (q ∙ r) i)))
+      (omega (
+        arith,
+        at,
+        no-edge (λ w. omega arith),
+        index-left k (faces t) (distinctParts t 3)
+            (subst (λ (e : ℕ). In k (distinctParts t e)) (q ∙ r) i),
+      ))
   number-at e (inr (inr (inl r))) q =
       subst (λ (e : ℕ). indexOf k (parts t) ≡ start t e + indexOf k (distinctParts t e)) (sym r)
-      (omega (arith, at, no-edge (λ w. omega arith), index-right k (faces t) (distinctParts t 3) (λ i. let w : d ≡ 2 = only 2 (inr (inl refl)) i in omega arith)))
+      (omega (
+        arith,
+        at,
+        no-edge (λ w. omega arith),
+        index-right k (faces t) (distinctParts t 3)
+            (λ i. let w : d ≡ 2 = only 2 (inr (inl refl)) i in omega arith),
+      ))
 
   pub number-part : indexOf k (parts t) ≡ start t d + indexOf k (distinctParts t d)
   number-part = number-at d di refl
 
 -- the same of a part of a cell
-pub fine-upper : (t : Topology) (x : CellOf t) (d : ℕ) → In d upper → (p : List ℕ) → In p (places (x .kind) d) → fine t (x .cell) p ≡ start t d + indexOf (keyAt (x .cell) p) (distinctParts t d)
+pub fine-upper :
+    (t : Topology) (x : CellOf t) (d : ℕ) → In d upper → (p : List ℕ) → In p (places (x .kind) d) →
+    fine t (x .cell) p ≡ numberOf t (x .cell) d p
 unfolding fineVertex
 fine-upper t x d di p pi = number-part t (keyAt (x .cell) p) d di (parts-in t d x p pi)
 
@@ -117,12 +151,15 @@ module _ (t : Topology) (s : Sound t) where
   pub fine-corner : (x : CellOf t) (j : ℕ) → In j (whole (x .kind)) → fine t (x .cell) (j ∷ []) ≡ corner (x .cell) j
   unfolding fineVertex
   fine-corner x j i =
-      ap (λ (k : Key). indexOf k (parts t)) (one-key (x .cell) j) ∙ number-vertex t (corner (x .cell) j) (s .known (x .kind) (x .cell) (x .listed) j i)
+      ap (λ (k : Key). indexOf k (parts t)) (one-key (x .cell) j)
+      ∙ number-vertex t (corner (x .cell) j) (s .known (x .kind) (x .cell) (x .listed) j i)
 
   -- a point is its own child
   pub point-child : (c : List ℕ) → In c (t .points) → childAt t point c 0 ≡ c
   unfolding child whole smallest firstHolding cellParts byDimension singles upFrom concat has any cornersAt
-  point-child c i = ap (λ (v : ℕ). v ∷ []) (fine-corner (record { kind = point; cell = c; listed = i }) 0 (inl refl)) ∙ corners-whole point c (s .sized point c i)
+  point-child c i =
+      ap (λ (v : ℕ). v ∷ []) (fine-corner (record { kind = point; cell = c; listed = i }) 0 (inl refl))
+      ∙ corners-whole point c (s .sized point c i)
 
   -- ---- the hexes are numbered as they are listed
 
@@ -148,28 +185,35 @@ module _ (t : Topology) (s : Sound t) where
       let c = getD (t .hexes) h [] in
       let i = getD-in (t .hexes) h [] l in
       let n : length (map keyOf (t .hexes)) ≡ length (t .hexes) = length-map (t .hexes) keyOf in
-      let e : getD (map keyOf (t .hexes)) h [] ≡ keyAt c (whole hex) = getD-map keyOf (t .hexes) h [] [] l ∙ sym (key-whole hex c (s .sized hex c i)) in
+      let e : getD (map keyOf (t .hexes)) h [] ≡ keyAt c (whole hex) =
+      getD-map keyOf (t .hexes) h [] [] l ∙ sym (key-whole hex c (s .sized hex c i)) in
       fine-upper t (record { kind = hex; cell = c; listed = i }) 3 (inr (inr (inl refl))) (whole hex) is-hex
       ∙ ap (λ (z : ℕ). start t 3 + z)
-      (ap (indexOf (keyAt c (whole hex))) hexes-listed ∙ ap (λ (k : Key). indexOf k (map keyOf (t .hexes))) (sym e) ∙ index-at (map keyOf (t .hexes)) (s .undoubled hex) h (omega arith))
+      (ap (indexOf (keyAt c (whole hex))) hexes-listed ∙ ap (λ (k : Key). indexOf k (map keyOf (t .hexes))) (sym e)
+      ∙ index-at (map keyOf (t .hexes)) (s .undoubled hex) h (omega arith))
 
-  -- The fine vertices of hex h, in the order of its 27 parts: its corners, its edges, its faces, its centre. This is what a kernel stores.
-  pub hex-vertices : (h : ℕ) → h < length (t .hexes) → (c : List ℕ) → c ≡ getD (t .hexes) h [] → map (fine t c) (cellParts hex) ≡ c ++ (map (λ (p : List ℕ). start t 1 + indexOf (keyAt c p) (edges t)) hexEdges ++ (map (λ (p : List ℕ). start t 2 + indexOf (keyAt c p) (faces t)) hexFaces ++ ((start t 3 + h) ∷ [])))
-  unfolding cellParts byDimension singles concat whole cornersAt
-  hex-vertices h l c e =
-      map-append (fine t c) (singles 8) (hexEdges ++ (hexFaces ++ (whole hex ∷ [])))
+  -- The fine vertices of a cell, in the order of its parts: its corners, its edges, its faces, its body. This is what a kernel stores.
+  pub cell-vertices :
+      (x : CellOf t) →
+      map (fine t (x .cell)) (cellParts (x .kind))
+      ≡ x .cell ++ (map (numberOf t (x .cell) 1) (places (x .kind) 1) ++ (map (numberOf t (x .cell) 2) (places (x .kind) 2) ++ map (numberOf t (x .cell) 3) (places (x .kind) 3)))
+  unfolding singles whole cornersAt
+  cell-vertices x =
+      let κ = x .kind in
+      let c = x .cell in
+      let f = fine t c in
+      ap (map f) (by-dimension κ)
+      ∙ map-append f (singles (corners κ)) (places κ 1 ++ (places κ 2 ++ places κ 3))
       ∙ two
-      (map-map (fine t c) (λ (j : ℕ). j ∷ []) (upFrom 0 8) ∙ map-same (λ (j : ℕ). fine t c (j ∷ [])) (corner c) (upFrom 0 8) (λ j i. fine-corner x j (is-place j i)) ∙ corners-whole hex c (s .sized hex c (x .listed)))
-      (map-append (fine t c) hexEdges (hexFaces ++ (whole hex ∷ []))
+      (map-map f (λ (j : ℕ). j ∷ []) (whole κ) ∙ map-same (λ (j : ℕ). f (j ∷ [])) (corner c) (whole κ) (λ j i. fine-corner x j i)
+      ∙ corners-whole κ c (s .sized κ c (x .listed)))
+      (map-append f (places κ 1) (places κ 2 ++ places κ 3)
       ∙ two
-      (map-same (fine t c) (λ (p : List ℕ). start t 1 + indexOf (keyAt c p) (edges t)) hexEdges (λ p i. fine-upper t x 1 (inl refl) p (is-edge p i)))
-      (map-append (fine t c) hexFaces (whole hex ∷ [])
+      (map-same f (numberOf t c 1) (places κ 1) (λ p i. fine-upper t x 1 (inl refl) p i))
+      (map-append f (places κ 2) (places κ 3)
       ∙ two
-      (map-same (fine t c) (λ (p : List ℕ). start t 2 + indexOf (keyAt c p) (faces t)) hexFaces (λ p i. fine-upper t x 2 (inr (inl refl)) p (is-face p i)))
-      (ap (λ (n : ℕ). n ∷ []) (ap (λ (c : List ℕ). fine t c (whole hex)) e ∙ fine-hex h l))))
+      (map-same f (numberOf t c 2) (places κ 2) (λ p i. fine-upper t x 2 (inr (inl refl)) p i))
+      (map-same f (numberOf t c 3) (places κ 3) (λ p i. fine-upper t x 3 (inr (inr (inl refl))) p i))))
     where
-      x : CellOf t
-      x = record { kind = hex; cell = c; listed = subst (λ (z : List ℕ). In z (t .hexes)) (sym e) (getD-in (t .hexes) h [] l) }
-
       two : {a b c d : List ℕ} → a ≡ b → c ≡ d → a ++ c ≡ b ++ d
       two p q = cc

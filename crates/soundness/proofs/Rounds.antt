@@ -2,7 +2,7 @@
 use mathlib.Core.Path.{_≡_, refl, sym, ap, _∙_, subst}
 use mathlib.Core.Bool.{false, not, _||_}
 use mathlib.Core.List.{List, [], _∷_}
-use Prim.Native.Nat.{ℕ, zero, suc, _*_, _%_, _<_, _≤_}
+use Prim.Native.Nat.{ℕ, zero, suc, _*_, _/_, _%_, _<_, _≤_}
 use native.Mathlib.Nat.{mul-mod-right}
 use native.Mathlib.Omega.{arith}
 use lib.ListN.{length, length-map}
@@ -15,7 +15,6 @@ use Rattle.rules.specs.Mesh.{Mesh, hex, quad, segment, point, Topology, topolog
 use Rattle.rules.specs.Split.{parts, splitBy, split}
 use Rattle.rules.specs.Means.{Mean, Round, rounded}
 use Rattle.rules.specs.Averaging.{meanAt, means, axis, averaged, round, refined}
-use Rattle.rules.specs.declared.Sizes.{Sizes}
 use Rattle.rules.specs.Counts.{sizes, nextSizes, sizesAfter, countsIn, countsOf, finishedCounts, outOfRange}
 use Rattle.rules.specs.Refusals.{partialEntry, countOutOfRange, coordinateOutOfRange, tooLarge}
 use Rattle.lists.proofs.Membership.{length-upFrom}
@@ -32,17 +31,15 @@ use Rattle.soundness.proofs.SplitSizes.{split-sizes, after-suc, after-g
 
 -- ---- a mesh of given cells
 
-same-topology : {a a′ : ℕ} {b b′ c c′ d d′ e e′ : List (List ℕ)} → a ≡ a′ → b ≡ b′ → c ≡ c′ → d ≡ d′ → e ≡ e′ → _≡_ {A = Topology} (record { vertexCount = a; hexes = b; quads = c; segments = d; points = e }) (record { vertexCount = a′; hexes = b′; quads = c′; segments = d′; points = e′ })
-same-topology p q r s t = λ i. record { vertexCount = p i; hexes = q i; quads = r i; segments = s i; points = t i }
-
 pub topology-meshOf : (xs : List ℤ) (t : Topology) → Sized t → length xs ≡ 3 * t .vertexCount → topology (meshOf xs t) ≡ t
 unfolding topology meshOf
 topology-meshOf xs t z e =
-    same-topology (omega arith)
-    (cut-concat 8 (t .hexes) (omega arith) (z hex))
-    (cut-concat 4 (t .quads) (omega arith) (z quad))
-    (cut-concat 2 (t .segments) (omega arith) (z segment))
-    (cut-concat 1 (t .points) (omega arith) (z point))
+    let v : length xs / 3 ≡ t .vertexCount = omega arith in
+    let h = cut-concat 8 (t .hexes) (omega arith) (z hex) in
+    let q = cut-concat 4 (t .quads) (omega arith) (z quad) in
+    let s = cut-concat 2 (t .segments) (omega arith) (z segment) in
+    let p = cut-concat 1 (t .points) (omega arith) (z point) in
+    rw (v, h, q, s, p)
 
 -- ---- one round
 
@@ -62,7 +59,8 @@ pub round-topology : (m : Mesh) → topology (round m) ≡ split (topology m)
 unfolding round split splitBy
 round-topology m =
     let t = topology m in
-    topology-meshOf (averaged (means t) (m .vertices)) (split t) (split-sized t) (length-averaged (means t) (m .vertices) ∙ ap (λ (n : ℕ). 3 * n) (length-means t))
+    topology-meshOf (averaged (means t) (m .vertices)) (split t) (split-sized t)
+    (length-averaged (means t) (m .vertices) ∙ ap (λ (n : ℕ). 3 * n) (length-means t))
 
 -- ---- several rounds
 
@@ -82,33 +80,28 @@ refined-sizes (suc n) m s =
 
 -- ---- the five counts
 
-same-counts : {a a′ b b′ c c′ d d′ e e′ : ℕ} → a ≡ a′ → b ≡ b′ → c ≡ c′ → d ≡ d′ → e ≡ e′ → _≡_ {A = Counts} (record { vertices = a; hexes = b; quads = c; segments = d; points = e }) (record { vertices = a′; hexes = b′; quads = c′; segments = d′; points = e′ })
-same-counts p q r s t = λ i. record { vertices = p i; hexes = q i; quads = r i; segments = s i; points = t i }
-
--- the counts among the sizes
-abbrev pub tables : Sizes → Counts
-tables s = record { vertices = s .vertices; hexes = s .hexes; quads = s .quads; segments = s .segments; points = s .points }
-
-pub finished-tables : (n : ℕ) (t : Topology) → finishedCounts n t ≡ tables (sizesAfter n (sizes t))
-unfolding finishedCounts countsIn
-finished-tables n t = refl
-
 -- the counts of a mesh's tables are those of its topology
-pub counts-now : (m : Mesh) → countsOf m ≡ tables (sizes (topology m))
-unfolding countsOf sizes topology
-counts-now m = same-counts refl (sym (length-cut 8 (m .hexes))) (sym (length-cut 4 (m .quads))) (sym (length-cut 2 (m .segments))) (sym (length-cut 1 (m .points)))
+pub counts-now : (m : Mesh) → countsOf m ≡ countsIn (sizes (topology m))
+unfolding countsOf countsIn sizes topology
+counts-now m = rw (length-cut 8 (m .hexes), length-cut 4 (m .quads), length-cut 2 (m .segments), length-cut 1 (m .points))
 
 -- the finished counts, known before any round
 pub refined-counts : (n : ℕ) (m : Mesh) → Sound (topology m) → countsOf (refined n m) ≡ finishedCounts n (topology m)
-refined-counts n m s = counts-now (refined n m) ∙ ap tables (refined-sizes n m s) ∙ sym (finished-tables n (topology m))
+unfolding finishedCounts
+refined-counts n m s = counts-now (refined n m) ∙ ap countsIn (refined-sizes n m s)
 
 -- ---- the ranges
 
 pub in-range : (c : Counts) → outOfRange c ≡ false → InRange c
 unfolding outOfRange
 in-range c h =
-    let a = or-neither (eqb (c .vertices) 0) (ltb 1_000_000 (c .vertices) || (ltb 250_000 (c .hexes) || (ltb 250_000 (c .quads) || (ltb 250_000 (c .segments) || ltb 250_000 (c .points))))) h in
-    let b = or-neither (ltb 1_000_000 (c .vertices)) (ltb 250_000 (c .hexes) || (ltb 250_000 (c .quads) || (ltb 250_000 (c .segments) || ltb 250_000 (c .points)))) (a .1) in
+    let a =
+    or-neither (eqb (c .vertices) 0)
+    (ltb 1_000_000 (c .vertices) ||
+    (ltb 250_000 (c .hexes) || (ltb 250_000 (c .quads) || (ltb 250_000 (c .segments) || ltb 250_000 (c .points))))) h in
+    let b =
+    or-neither (ltb 1_000_000 (c .vertices))
+    (ltb 250_000 (c .hexes) || (ltb 250_000 (c .quads) || (ltb 250_000 (c .segments) || ltb 250_000 (c .points)))) (a .1) in
     let d = or-neither (ltb 250_000 (c .hexes)) (ltb 250_000 (c .quads) || (ltb 250_000 (c .segments) || ltb 250_000 (c .points))) (b .1) in
     let e = or-neither (ltb 250_000 (c .quads)) (ltb 250_000 (c .segments) || ltb 250_000 (c .points)) (d .1) in
     let f = or-neither (ltb 250_000 (c .segments)) (ltb 250_000 (c .points)) (e .1) in
@@ -157,7 +150,9 @@ round-entire m =
     let v = entire (length (averaged (means t) (m .vertices))) 3 (length (means t)) (omega arith) (length-averaged (means t) (m .vertices)) in
     let h = entire (length (concat (split t .hexes))) 8 (length (split t .hexes)) (omega arith) (length-concat 8 (split t .hexes) (z hex)) in
     let q = entire (length (concat (split t .quads))) 4 (length (split t .quads)) (omega arith) (length-concat 4 (split t .quads) (z quad)) in
-    let s = entire (length (concat (split t .segments))) 2 (length (split t .segments)) (omega arith) (length-concat 2 (split t .segments) (z segment)) in
+    let s =
+    entire (length (concat (split t .segments))) 2 (length (split t .segments)) (omega arith)
+    (length-concat 2 (split t .segments) (z segment)) in
     rw (v, h, q, s)
 
 pub refined-entire : (n : ℕ) (m : Mesh) → partialEntry m ≡ false → partialEntry (refined n m) ≡ false
@@ -171,7 +166,8 @@ unfolding countOutOfRange tooLarge
 refined-range n m s = ap outOfRange (refined-counts n m s)
 
 -- A mesh that passes the checks, refined and not too large, passes them again; check 3 by a law of its own.
-pub refined-accepted : (n : ℕ) (m : Mesh) → Accepted m → tooLarge n (topology m) ≡ false → coordinateOutOfRange (refined n m) ≡ false → Accepted (refined n m)
+pub refined-accepted :
+    (n : ℕ) (m : Mesh) → Accepted m → tooLarge n (topology m) ≡ false → coordinateOutOfRange (refined n m) ≡ false → Accepted (refined n m)
 refined-accepted n m a h k = record {
   entire = refined-entire n m (a .entire);
   counted = refined-range n m (a .sound) ∙ h;

@@ -50,7 +50,8 @@ module _ (t : Topology) (s : Sound t) where
   module _ (x y : CellOf t) (d : ℕ) (di : In d dimensions) (r : List ℕ) (ri : In r (places (x .kind) d)) (r′ : List ℕ) (ri′ : In r′ (places (y .kind) d)) (e : keyAt (x .cell) r ≡ keyAt (y .cell) r′) where
     shared-corner : (j : ℕ) → In j (whole (x .kind)) → Within (j ∷ []) r → Counterpart t x y r′ (j ∷ [])
     shared-corner j i h =
-        let a : In (corner (x .cell) j) (keyAt (y .cell) r′) = subst (λ (k : Key). In (corner (x .cell) j) k) e (part-in (x .cell) r j (h j (inl refl))) in
+        let a : In (corner (x .cell) j) (keyAt (y .cell) r′) =
+        subst (λ (k : Key). In (corner (x .cell) j) k) e (part-in (x .cell) r j (h j (inl refl))) in
         let b = in-part (y .cell) r′ (corner (x .cell) j) a in
         record {
           its = b .0 ∷ [];
@@ -66,8 +67,10 @@ module _ (t : Topology) (s : Sound t) where
         let k : x .kind ≡ y .kind = a .0 ∙ sym (b .0) in
         let w : r ≡ r′ = a .1 ∙ ap whole k ∙ sym (b .1) in
         let c : x .cell ≡ y .cell =
-        once-inj keyOf (cellsOf t (y .kind)) (s .undoubled (y .kind)) (x .cell) (y .cell) (subst (λ (κ : Kind). In (x .cell) (cellsOf t κ)) k (x .listed)) (y .listed)
-        (sym (key-whole (x .kind) (x .cell) (s .sized (x .kind) (x .cell) (x .listed))) ∙ ap (keyAt (x .cell)) (sym (a .1)) ∙ e ∙ ap (keyAt (y .cell)) (b .1)
+        once-inj keyOf (cellsOf t (y .kind)) (s .undoubled (y .kind)) (x .cell) (y .cell)
+        (subst (λ (κ : Kind). In (x .cell) (cellsOf t κ)) k (x .listed)) (y .listed)
+        (sym (key-whole (x .kind) (x .cell) (s .sized (x .kind) (x .cell) (x .listed))) ∙ ap (keyAt (x .cell)) (sym (a .1)) ∙ e
+        ∙ ap (keyAt (y .cell)) (b .1)
         ∙ key-whole (y .kind) (y .cell) (s .sized (y .kind) (y .cell) (y .listed))) in
         record {
           its = q;
@@ -88,8 +91,10 @@ module _ (t : Topology) (s : Sound t) where
         part-ext t s x q (cornersAt r (a .0)) (placed (x .kind) q i) (once-part (x .kind) q i) (step-once (x .kind) r rf (a .0) (a .1)) (a .2)
         ∙ sym (ring-step (x .cell) r l₄ (a .0) (a .1)) in
         let k₂ : In (keyAt (x .cell) q) (map (keyAt (cornersAt (y .cell) r′)) quadEdges) =
-        s .matched (cornersAt (x .cell) r) (cornersAt (y .cell) r′) (met-in t 2 x r rf) (met-in t 2 y r′ rf′) (keys-of (x .cell) r (y .cell) r′ e) (keyAt (x .cell) q)
-        (subst (λ (z : Key). In z (map (keyAt (cornersAt (x .cell) r)) quadEdges)) (sym k₁) (map-in (keyAt (cornersAt (x .cell) r)) quadEdges (a .0) (a .1))) in
+        s .matched (cornersAt (x .cell) r) (cornersAt (y .cell) r′) (met-in t 2 x r rf) (met-in t 2 y r′ rf′)
+        (keys-of (x .cell) r (y .cell) r′ e) (keyAt (x .cell) q)
+        (subst (λ (z : Key). In z (map (keyAt (cornersAt (x .cell) r)) quadEdges)) (sym k₁)
+        (map-in (keyAt (cornersAt (x .cell) r)) quadEdges (a .0) (a .1))) in
         let b = in-map (keyAt (cornersAt (y .cell) r′)) quadEdges (keyAt (x .cell) q) k₂ in
         let c = step-edge (y .kind) r′ rf′ (b .0) (b .1) in
         let w = placed (y .kind) r′ (is-part (y .kind) d di r′ ri′) in
@@ -99,7 +104,8 @@ module _ (t : Topology) (s : Sound t) where
           within = λ j u. step-in (y .kind) r′ rf′ (b .0) (b .1) j (c .2 .1 j u);
           same-key =
               b .2 ∙ ring-step (y .cell) r′ l₄′ (b .0) (b .1)
-              ∙ part-ext t s y (cornersAt r′ (b .0)) (c .0) (λ j u. w j (step-in (y .kind) r′ rf′ (b .0) (b .1) j u)) (step-once (y .kind) r′ rf′ (b .0) (b .1)) (once-part (y .kind) (c .0) (c .1)) (c .2);
+              ∙ part-ext t s y (cornersAt r′ (b .0)) (c .0) (λ j u. w j (step-in (y .kind) r′ rf′ (b .0) (b .1) j u))
+              (step-once (y .kind) r′ rf′ (b .0) (b .1)) (once-part (y .kind) (c .0) (c .1)) (c .2);
         }
 
     pub counterpart : (q : List ℕ) → In q (cellParts (x .kind)) → Within q r → Counterpart t x y r′ q
@@ -107,12 +113,16 @@ module _ (t : Topology) (s : Sound t) where
       where
         go : Lying (x .kind) d r q → Counterpart t x y r′ q
         go (inl p) = record { its = r′; is-part = is-part (y .kind) d di r′ ri′; within = inside-self r′; same-key = ap (keyAt (x .cell)) p ∙ e }
-        go (inr (inl c)) = subst (λ (z : List ℕ). Counterpart t x y r′ z) (sym (c .2)) (shared-corner (c .0) (c .1) (subst (λ (z : List ℕ). Within z r) (c .2) h))
+        go (inr (inl c)) =
+            subst (λ (z : List ℕ). Counterpart t x y r′ z) (sym (c .2))
+            (shared-corner (c .0) (c .1) (subst (λ (z : List ℕ). Within z r) (c .2) h))
         go (inr (inr (inl p))) = shared-edge (p .0) q i h (p .1)
         go (inr (inr (inr p))) = shared-hex p q i h
 
     -- all between p and the shared part is there in the other cell
-    between-shared : (p p′ : List ℕ) → In p′ (cellParts (y .kind)) → keyAt (x .cell) p ≡ keyAt (y .cell) p′ → (z : ℕ) → In z (map (fine t (x .cell)) (between (x .kind) p r)) → In z (map (fine t (y .cell)) (between (y .kind) p′ r′))
+    between-shared :
+        (p p′ : List ℕ) → In p′ (cellParts (y .kind)) → keyAt (x .cell) p ≡ keyAt (y .cell) p′ → (z : ℕ) →
+        In z (map (fine t (x .cell)) (between (x .kind) p r)) → In z (map (fine t (y .cell)) (between (y .kind) p′ r′))
     unfolding fineVertex
     between-shared p p′ pi′ k z i =
         let a = in-map (fine t (x .cell)) (between (x .kind) p r) z i in
@@ -126,7 +136,10 @@ module _ (t : Topology) (s : Sound t) where
         (map-in (fine t (y .cell)) (between (y .kind) p′ r′) (c .its) (between-in (y .kind) p′ r′ (c .its) (c .is-part) n (c .within)))
 
   -- a part of the fine mesh may be taken in any cell that has its upper end
-  pub transfer : (x y : CellOf t) (d : ℕ) → In d dimensions → (r : List ℕ) → In r (places (x .kind) d) → (r′ : List ℕ) → In r′ (places (y .kind) d) → keyAt (x .cell) r ≡ keyAt (y .cell) r′ → (p : List ℕ) → In p (cellParts (x .kind)) → Within p r → (c : Counterpart t x y r′ p) × (fineKey t x p r ≡ fineKey t y (c .its) r′)
+  pub transfer :
+      (x y : CellOf t) (d : ℕ) → In d dimensions → (r : List ℕ) → In r (places (x .kind) d) → (r′ : List ℕ) → In r′ (places (y .kind) d) →
+      keyAt (x .cell) r ≡ keyAt (y .cell) r′ → (p : List ℕ) → In p (cellParts (x .kind)) → Within p r →
+      (c : Counterpart t x y r′ p) × (fineKey t x p r ≡ fineKey t y (c .its) r′)
   unfolding fineKey
   transfer x y d di r ri r′ ri′ e p i h =
       let c = counterpart x y d di r ri r′ ri′ e p i h in (
@@ -144,7 +157,9 @@ module _ (t : Topology) (s : Sound t) where
     other : (a : List ℕ) → In a (between (x .kind) p r) → (b : List ℕ) × In b (between (y .kind) p′ r′) × (keyAt (x .cell) a ≡ keyAt (y .cell) b)
     unfolding fineKey
     other a i =
-        let z = same-members (map (fine t (x .cell)) (between (x .kind) p r)) (map (fine t (y .cell)) (between (y .kind) p′ r′)) e (fine t (x .cell) a) (map-in (fine t (x .cell)) (between (x .kind) p r) a i) in
+        let z =
+        same-members (map (fine t (x .cell)) (between (x .kind) p r)) (map (fine t (y .cell)) (between (y .kind) p′ r′)) e
+        (fine t (x .cell) a) (map-in (fine t (x .cell)) (between (x .kind) p r) a i) in
         let b = in-map (fine t (y .cell)) (between (y .kind) p′ r′) (fine t (x .cell) a) z in
         (b .0, b .1, fine-eq t s x y a (b .0) (in-between (x .kind) p r a i .0) (in-between (y .kind) p′ r′ (b .0) (b .1) .0) (b .2))
 
@@ -163,7 +178,10 @@ module _ (t : Topology) (s : Sound t) where
         let c = in-between (y .kind) p′ r′ (b .0) (b .1) in
         omega (arith, same-length p (b .0) (b .2), inside-length (y .kind) p′ (b .0) j (c .1))
 
-  pub ends : (x y : CellOf t) (p r p′ r′ : List ℕ) → In p (cellParts (x .kind)) → In r (cellParts (x .kind)) → Within p r → In p′ (cellParts (y .kind)) → In r′ (cellParts (y .kind)) → Within p′ r′ → fineKey t x p r ≡ fineKey t y p′ r′ → (keyAt (x .cell) p ≡ keyAt (y .cell) p′) × (keyAt (x .cell) r ≡ keyAt (y .cell) r′)
+  pub ends :
+      (x y : CellOf t) (p r p′ r′ : List ℕ) → In p (cellParts (x .kind)) → In r (cellParts (x .kind)) → Within p r →
+      In p′ (cellParts (y .kind)) → In r′ (cellParts (y .kind)) → Within p′ r′ → fineKey t x p r ≡ fineKey t y p′ r′ →
+      (keyAt (x .cell) p ≡ keyAt (y .cell) p′) × (keyAt (x .cell) r ≡ keyAt (y .cell) r′)
   ends x y p r p′ r′ pi ri h pi′ ri′ k e =
       let a = other x y p r p′ r′ e r (between-in (x .kind) p r r ri h (inside-self r)) in
       let b = in-between (y .kind) p′ r′ (a .0) (a .1) in

@@ -51,10 +51,11 @@ module _ (t : Topology) (s : Sound t) where
       let h = hexes-are in
       let e = count-parts t s 1 (inl refl) in
       let f = count-parts t s 2 (inr (inl refl)) in
-      eq length-numbered (omega arith) (omega arith) (length-cells t hex) (length-cells t quad) (length-cells t segment) (omega (arith, length-cells t point))
-    where
-      eq : {a b c d e f g a′ b′ c′ d′ e′ f′ g′ : ℕ} → a ≡ a′ → b ≡ b′ → c ≡ c′ → d ≡ d′ → e ≡ e′ → f ≡ f′ → g ≡ g′ → _≡_ {A = Sizes} (record { vertices = a; edges = b; faces = c; hexes = d; quads = e; segments = f; points = g }) (record { vertices = a′; edges = b′; faces = c′; hexes = d′; quads = e′; segments = f′; points = g′ })
-      eq p q r s t u v = λ i. record { vertices = p i; edges = q i; faces = r i; hexes = s i; quads = t i; segments = u i; points = v i }
+      let v = length-numbered in
+      let n : length (edges (split t)) ≡ 2 * length (edges t) + (4 * length (faces t) + 6 * length (t .hexes)) = omega arith in
+      let m : length (faces (split t)) ≡ 4 * length (faces t) + 12 * length (t .hexes) = omega arith in
+      let p : length (cellsOf (split t) point) ≡ length (t .points) = omega (arith, length-cells t point) in
+      rw (n, m, length-cells t hex, length-cells t quad, length-cells t segment, p, v)
 
 -- ---- round after round
 

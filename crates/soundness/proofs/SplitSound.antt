@@ -29,14 +29,20 @@ module _ (t : Topology) (s : Sound t) where
       ∙ child-key t s x i (whole (x .kind)) (i ∷ []) (whole (x .kind)) (λ j k. k) (w .0) (w .1)
 
   module _ (κ : Kind) where
-    child-apart : (c b : List ℕ) → In c (cellsOf t κ) → In b (cellsOf t κ) → (i j : ℕ) → In i (whole κ) → In j (whole κ) → keyOf (childAt t κ c i) ≡ keyOf (childAt t κ b j) → (c ≡ b) × (i ≡ j)
+    child-apart :
+        (c b : List ℕ) → In c (cellsOf t κ) → In b (cellsOf t κ) → (i j : ℕ) → In i (whole κ) → In j (whole κ) →
+        keyOf (childAt t κ c i) ≡ keyOf (childAt t κ b j) → (c ≡ b) × (i ≡ j)
     child-apart c b ci bi i j h k e =
         let x : CellOf t = record { kind = κ; cell = c; listed = ci } in
         let y : CellOf t = record { kind = κ; cell = b; listed = bi } in
         let v = corner-in κ i h in
         let w = corner-in κ j k in
-        let z = ends t s x y (i ∷ []) (whole κ) (j ∷ []) (whole κ) v (whole-in κ) (placed κ (i ∷ []) v) w (whole-in κ) (placed κ (j ∷ []) w) (sym (whole-key x i h) ∙ e ∙ whole-key y j k) in
-        let p : c ≡ b = once-inj keyOf (cellsOf t κ) (s .undoubled κ) c b ci bi (sym (key-whole κ c (s .sized κ c ci)) ∙ z .1 ∙ key-whole κ b (s .sized κ b bi)) in
+        let z =
+        ends t s x y (i ∷ []) (whole κ) (j ∷ []) (whole κ) v (whole-in κ) (placed κ (i ∷ []) v) w (whole-in κ) (placed κ (j ∷ []) w)
+        (sym (whole-key x i h) ∙ e ∙ whole-key y j k) in
+        let p : c ≡ b =
+        once-inj keyOf (cellsOf t κ) (s .undoubled κ) c b ci bi
+        (sym (key-whole κ c (s .sized κ c ci)) ∙ z .1 ∙ key-whole κ b (s .sized κ b bi)) in
         let q : i ∷ [] ≡ j ∷ [] = key-inj t s x (i ∷ []) (j ∷ []) v w (z .0 ∙ ap (λ (d : List ℕ). keyAt d (j ∷ [])) (sym p)) in
         (p, head-eq-of-cons-eq q)
 
@@ -54,7 +60,9 @@ module _ (t : Topology) (s : Sound t) where
         (λ c b ci bi e.
         let p = is-child t κ c ci in
         let q = is-child t κ b bi in
-        let z = child-apart (p .parent) (q .parent) (p .listed) (q .listed) (p .number) (q .number) (p .placed) (q .placed) (ap keyOf (sym (p .is)) ∙ e ∙ ap keyOf (q .is)) in
+        let z =
+        child-apart (p .parent) (q .parent) (p .listed) (q .listed) (p .number) (q .number) (p .placed) (q .placed)
+        (ap keyOf (sym (p .is)) ∙ e ∙ ap keyOf (q .is)) in
         p .is ∙ ap (λ (d : List ℕ). childAt t κ d (p .number)) (z .0) ∙ ap (childAt t κ (q .parent)) (z .1) ∙ sym (q .is))
 
   -- ---- each fine vertex is in a cell
@@ -94,15 +102,17 @@ module _ (t : Topology) (s : Sound t) where
         placed = j .1;
         is =
             sym (index-at (parts t) (once-numbered t) v l) ∙ ap (λ (z : Key). indexOf z (parts t)) (a .3 ∙ ap (keyAt (x .cell)) (sym (j .2)))
-            ∙ sym (corner-child t s x (r .0) (j .0) (j .1));
+            ∙ sym (corner-child (parts t) (x .kind) (x .cell) (r .0) (j .0) (j .1));
       }
 
   -- ---- corners of fine cells
 
-  corner-is : (κ : Kind) (c : List ℕ) (i : In c (cellsOf (split t) κ)) (j : ℕ) → In j (whole κ) → corner c j ≡ fine t (is-child t κ c i .parent) (smallest κ (is-child t κ c i .number) j)
+  corner-is :
+      (κ : Kind) (c : List ℕ) (i : In c (cellsOf (split t) κ)) (j : ℕ) → In j (whole κ) →
+      corner c j ≡ fine t (is-child t κ c i .parent) (smallest κ (is-child t κ c i .number) j)
   corner-is κ c i j h =
       let a = is-child t κ c i in
-      ap (λ (z : List ℕ). corner z j) (a .is) ∙ corner-child t s (record { kind = κ; cell = a .parent; listed = a .listed }) (a .number) j h
+      ap (λ (z : List ℕ). corner z j) (a .is) ∙ corner-child (parts t) κ (a .parent) (a .number) j h
 
   pub split-sound : Sound (split t)
   unfolding split splitBy fineVertex
@@ -112,7 +122,8 @@ module _ (t : Topology) (s : Sound t) where
         let a = is-child t κ c i in
         let x : CellOf t = record { kind = κ; cell = a .parent; listed = a .listed } in
         let q = smallest κ (a .number) j in
-        let l : indexOf (keyAt (a .parent) q) (parts t) < length (parts t) = index-below (keyAt (a .parent) q) (parts t) (part-known t s x q (smallest-part κ (a .number) (a .placed) j h)) in
+        let l : indexOf (keyAt (a .parent) q) (parts t) < length (parts t) =
+        index-below (keyAt (a .parent) q) (parts t) (part-known t s x q (smallest-part κ (a .number) (a .placed) j h)) in
         subst (λ (n : ℕ). n < length (parts t)) (sym (corner-is κ c i j h)) l;
     unfolded = λ κ c i j k h g e.
         let a = is-child t κ c i in

@@ -7,3 +7,5 @@ pub mod Numbers
 pub mod Growth
 -- A mesh that passes checks 1 to 8.
 pub mod Accepted
+-- Check 7 by one number a face.
+pub mod Across

@@ -9,7 +9,7 @@ use lib.ListN.{length, getD}
 use Rattle.rules.specs.Lists.{any, repeats, cut}
 use Rattle.lists.proofs.Tables.{length-cut}
 use Rattle.checks.proofs.Scans.{Scanning, any-search, scan-start, scan-hit, scan-miss, scan-end}
-use Rattle.checks.proofs.Parts.{entry-within, entry-part}
+use Rattle.checks.proofs.Slices.{entry-within, entry-part}
 use Rattle.checks.proofs.cells.any_repeat.Statement.{statement}
 use Rattle.checks.proofs.cells.any_repeat.Tie as tie
 

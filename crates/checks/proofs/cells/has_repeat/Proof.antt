@@ -6,7 +6,7 @@ use lib.Dec.{eqb}
 use lib.ListN.{length, drop, getD}
 use Rattle.rules.specs.Lists.{any, repeats, has}
 use Rattle.checks.proofs.Scans.{Scanning, repeats-search, scan-start, scan-hit, scan-miss, scan-end}
-use Rattle.checks.proofs.Parts.{rest-part}
+use Rattle.checks.proofs.Slices.{rest-part}
 use Rattle.checks.proofs.cells.has_repeat.Statement.{statement}
 use Rattle.checks.proofs.cells.has_repeat.Tie as tie
 

@@ -1,0 +1,2 @@
+-- Loops: what a storing loop keeps.
+pub mod Loops

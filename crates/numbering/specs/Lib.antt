@@ -1,0 +1,7 @@
+-- What the contracts of the numbering cite.
+-- Chains: a hash table with chains, as functions on numbers.
+pub mod Chains
+-- Table: the same in a list of numbers; what it stands for; what meeting a key does.
+pub mod Table
+-- Meeting: the answer to meeting a key.
+pub mod Meeting
