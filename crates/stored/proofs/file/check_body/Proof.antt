@@ -14,14 +14,14 @@ use Rattle.stored.proofs.file.check_body.Tie as tie
 layout-of-requires : tie.Need-layout-of-requires
 layout-of-requires c κs =
     let start = c .before in
-    subst (λ (d : Counts). outOfRange d ≡ false) (start .pre .2) (header-accepted (start .args .s .now) 0 (start .pre .1) .0 .range)
+    subst (λ (d : Counts). outOfRange d ≡ false) (start .pre .1) (header-accepted (start .args .s .now) 0 (start .pre .0) .0 .range)
 
 -- what is known behind the header
 body : (c : tie.After-layout-of) → let a = c .before .before .args in Body (a .s .now) (a .c) (c .layout-of .result)
 body c =
     let start = c .before .before in
     let a = start .args in
-    body-known (a .s .now) (a .c) (c .layout-of .result) (header-accepted (a .s .now) 0 (start .pre .1) .0) (start .pre .2) (c .layout-of .ensures)
+    body-known (a .s .now) (a .c) (c .layout-of .result) (header-accepted (a .s .now) 0 (start .pre .0) .0) (start .pre .1) (c .layout-of .ensures)
 
 returns : tie.Need-returns
 returns c = sym (wrong-length (body (c .before .before)) (c .if1 .taken))
