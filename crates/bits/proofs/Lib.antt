@@ -10,7 +10,7 @@ pub mod Encoding
 pub mod Writing
 -- Windows: the few bytes that hold a field.
 pub mod Windows
--- Tables: a table's entries, one by one, and a run of stores at the front of a slice.
+-- Tables: a table's entries, one by one.
 pub mod Tables
 -- BitList: the definitions by numbers mean what the lists of bits say.
 pub mod BitList

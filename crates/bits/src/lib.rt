@@ -7,10 +7,10 @@
 ghost use mathlib.Core.Path.{_≡_};
 ghost use mathlib.Core.Bool.{false};
 ghost use mathlib.Core.List.{map};
-ghost use Prim.Native.Nat.{ℕ, _+_, _-_, _*_, _/_, _%_, _^_, _≤_, _<_};
+ghost use Prim.Native.Nat.{ℕ, _+_, _*_, _/_, _%_, _^_, _≤_, _<_};
 ghost use lib.ListN.{length, take, drop, getD};
 ghost use lib.IntN.{pos};
-ghost use lib.Seq.{paste};
+ghost use lib.Seq.{sets};
 ghost use Rattle.rules.specs.Lists.{overwritten};
 ghost use Rattle.rules.specs.Refusals.{outside};
 ghost use Rattle.rules.specs.Bits.{number, fieldAt, tableAt, bytesOf, widthOf};
@@ -37,28 +37,28 @@ fn cut(x: u64, below: u32, k: u32) -> u64
 
 // ---- the bytes that hold a field, as one number
 
-// The number that the bytes from `from` up to `to` spell: at most five.
-fn get_bytes(s: &[u8], from: usize, to: usize) -> u64
-    requires { ⌜ (from ≤ to) × (to ≤ length (now s)) × (to ≤ from + 5) ⌝ }
-    ensures { λ r. ⌜ r ≡ number (take (to - from) (drop from (now (s .entry)))) ⌝ }
+// The number that n bytes from byte `from` on spell: at most five.
+fn get_bytes(s: &[u8], from: usize, n: usize) -> u64
+    requires { ⌜ (from + n ≤ length (now s)) × (n ≤ 5) ⌝ }
+    ensures { λ r. ⌜ r ≡ number (take n (drop from (now (s .entry)))) ⌝ }
 {
     let mut x: u64 = 0;
-    let mut i = from;
-    while i < to {
-        x = append(x, 8, s[i] as u64);
+    let mut i = 0;
+    while i < n {
+        x = append(x, 8, s[from + i] as u64);
         i += 1;
     }
     x
 }
 
-// Stores x, as to - from bytes, at the bytes from `from` up to `to`.
-fn put_bytes(d: &mut [u8], from: usize, to: usize, x: u64)
-    requires { ⌜ (from ≤ to) × (to ≤ length (now d)) × (to ≤ from + 5) ⌝ }
-    ensures { λ _. ⌜ now (d .exit) ≡ paste (now (d .entry)) from (bytesOf (to - from) x) (to - from) ⌝ }
+// Stores the n bytes that spell x from byte `from` on: at most five.
+fn put_bytes(d: &mut [u8], from: usize, n: usize, x: u64)
+    requires { ⌜ (from + n ≤ length (now d)) × (n ≤ 5) ⌝ }
+    ensures { λ _. ⌜ now (d .exit) ≡ sets (now (d .entry)) from (bytesOf n x) ⌝ }
 {
-    let mut i = from;
-    while i < to {
-        d[i] = cut(x, (8 * (to - i - 1)) as u32, 8) as u8;
+    let mut i = 0;
+    while i < n {
+        d[from + i] = cut(x, (8 * (n - 1 - i)) as u32, 8) as u8;
         i += 1;
     }
 }
@@ -72,8 +72,9 @@ pub fn get_field(s: &[u8], at: usize, k: u32) -> u32
 {
     let end = at + (k as usize);
     let from = at / 8;
-    let to = (end + 7) / 8;
-    cut(get_bytes(s, from, to), (8 * to - end) as u32, k) as u32
+    let n = (end + 7) / 8 - from;
+    let after = (8 * (from + n) - end) as u32;
+    cut(get_bytes(s, from, n), after, k) as u32
 }
 
 // Writes the k bits of v behind the first `at` bits, and zero bits behind them to a whole byte. Answers the bit behind the field.
@@ -83,11 +84,12 @@ pub fn put_field(d: &mut [u8], at: usize, k: u32, v: u32) -> usize
 {
     let end = at + (k as usize);
     let from = at / 8;
-    let to = (end + 7) / 8;
+    let n = (end + 7) / 8 - from;
     let before = (at % 8) as u32;
+    let after = (8 * (from + n) - end) as u32;
     let head = cut(d[from] as u64, 8 - before, before);
-    let whole = append(append(head, k, v as u64), (8 * to - end) as u32, 0);
-    put_bytes(d, from, to, whole);
+    let whole = append(append(head, k, v as u64), after, 0);
+    put_bytes(d, from, n, whole);
     end
 }
 

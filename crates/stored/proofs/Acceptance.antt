@@ -1,6 +1,6 @@
 -- What an accepted file and an accepted mesh are known to be, and that what is so is accepted.
 use Prim.Native.Nat.{ℕ, zero, suc, _%_, _^_, _≤_, _<_}
-use mathlib.Core.Path.{_≡_, refl, ap, _∙_}
+use mathlib.Core.Path.{_≡_, refl, sym, ap, _∙_}
 use mathlib.Core.Bool.{Bool, true, false, not}
 use mathlib.Core.List.{List}
 use native.Mathlib.Omega.{arith}
@@ -15,6 +15,7 @@ use Rattle.rules.specs.Refusals.{check, partialEntry, countOutOfRange, outside,
 use Rattle.rules.specs.EntryPoints.{countsAnswer, resultTables}
 use Rattle.rules.specs.Bits.{number, bytesFor, filling}
 use Rattle.rules.specs.StoredForm.{headerOf, indexWidth, layout, storedMesh, headerCut, unknownForm, wrongWidth, wrongLength, spareBits, readingRefusal}
+use Rattle.checks.proofs.Passed.{TablesPass, tables-pass}
 use Rattle.stored.specs.declared.header.Head.the-variants as H
 use Rattle.stored.specs.Form.{headerFor}
 use Rattle.stored.specs.Reading.{headOf, answerOf, headerChecks, bodyChecks, fileChecks}
@@ -157,26 +158,7 @@ reading-accepted s lent e =
     let a = accepted s (check (fewer lent (headerOf s .counts)) 11 0) e in
     (a .0, passes (fewer lent (headerOf s .counts)) 11 0 (omega arith) (a .1) .0)
 
--- ---- an accepted mesh
-
-pub record Writable (m : Mesh) : Type 0 where
-  pub entries : partialEntry m ≡ false
-  pub range : outOfRange (countsOf m) ≡ false
-  pub near : any outside (m .vertices) ≡ false
-  pub corners : cornerOutOfRange (topology m) ≡ false
-
-pub writable : (m : Mesh) (later : ℕ) → tableChecks m later ≡ 0 → Writable m × (later ≡ 0)
-unfolding tableChecks countOutOfRange coordinateOutOfRange
-writable m later e =
-    let a = passes (partialEntry m) 1 _ (omega arith) e in
-    let b = passes (outOfRange (countsOf m)) 2 _ (omega arith) (a .1) in
-    let c = passes (any outside (m .vertices)) 3 _ (omega arith) (b .1) in
-    let d = passes (cornerOutOfRange (topology m)) 4 later (omega arith) (c .1) in
-    (record { entries = a .0; range = b .0; near = c .0; corners = d .0 }, d .1)
-
-pub writing : (m : Mesh) (later : ℕ) → Writable m → tableChecks m later ≡ later
-unfolding tableChecks countOutOfRange coordinateOutOfRange
-writing m later w = rw (w .entries, w .range, w .near, w .corners)
+-- ---- an accepted mesh: `TablesPass`
 
 pub tables-later : (m : Mesh) (later : ℕ) → tableChecks m later ≡ orLater (tableChecks m 0) later
 unfolding tableChecks
@@ -188,3 +170,22 @@ tables-later m later = go (partialEntry m) (countOutOfRange m) (coordinateOutOfR
     go false false true d = refl
     go false false false true = refl
     go false false false false = refl
+
+pub mesh-passes : (m : Mesh) (later : ℕ) → tableChecks m later ≡ 0 → TablesPass m
+mesh-passes m later e = tables-pass m (first (tableChecks m 0) (sym (tables-later m later) ∙ e))
+  where
+    first : (n : ℕ) → orLater n later ≡ 0 → n ≡ 0
+    first zero e = refl
+    first (suc n) e = absurd (omega arith)
+
+pub passing : (m : Mesh) (later : ℕ) → TablesPass m → tableChecks m later ≡ later
+unfolding tableChecks
+passing m later p = rw (p .whole, p .counts, p .inside, p .known)
+
+pub pass-range : (m : Mesh) → TablesPass m → outOfRange (countsOf m) ≡ false
+unfolding countOutOfRange
+pass-range m p = p .counts
+
+pub pass-near : (m : Mesh) → TablesPass m → any outside (m .vertices) ≡ false
+unfolding coordinateOutOfRange
+pass-near m p = p .inside

@@ -14,12 +14,13 @@ use Rattle.rules.specs.Counts.{countsOf, fewer}
 use Rattle.rules.specs.Refusals.{check, tableChecks}
 use Rattle.rules.specs.EntryPoints.{countsAnswer, countAnswer, resultBuffer, resultTables}
 use Rattle.rules.specs.StoredForm.{storedForm, headerOf, storedMesh, readingRefusal, readingAnswer, readingOutput, writingRefusal, writingAnswer, writingOutput}
+use Rattle.checks.proofs.Passed.{TablesPass}
 use Rattle.bits.specs.Writing.{Bytes}
 use Rattle.stored.specs.declared.header.Head.{Head}
 use Rattle.stored.specs.declared.header.Head.the-variants as H
 use Rattle.stored.specs.Inverse.{WritesBack, ReadsBack}
 use Rattle.stored.specs.Reading.{headOf, answerOf, fileChecks}
-use Rattle.stored.proofs.Acceptance.{orLater, reading-later, head-read, head-refused, answer-head, refused-tables, reading-accepted, Writable, writable, writing, tables-later}
+use Rattle.stored.proofs.Acceptance.{orLater, reading-later, head-read, head-refused, answer-head, refused-tables, reading-accepted, tables-later, mesh-passes, passing}
 use Rattle.stored.proofs.Inverse.{writes-back, reads-back}
 
 -- ---- reading
@@ -107,14 +108,14 @@ module _ (m : Mesh) (d : List ℕ) where
   mesh-refused (suc n) e ne = refused n (tables-later m _ ∙ rw (← e))
 
   -- by the lent buffer
-  pub buffer-refused : Writable m → length d < length (storedForm m) → Returned 11 0 d
+  pub buffer-refused : TablesPass m → length d < length (storedForm m) → Returned 11 0 d
   unfolding writingRefusal
-  buffer-refused w l = refused 10 (writing m _ w ∙ rw (lt-ltb (length d) (length (storedForm m)) l))
+  buffer-refused w l = refused 10 (passing m _ w ∙ rw (lt-ltb (length d) (length (storedForm m)) l))
 
-  pub accepted-writing : Writable m → length (storedForm m) ≤ length d → Returned 0 (length (storedForm m)) (overwritten d (storedForm m))
+  pub accepted-writing : TablesPass m → length (storedForm m) ≤ length d → Returned 0 (length (storedForm m)) (overwritten d (storedForm m))
   unfolding writingRefusal writingAnswer writingOutput
   accepted-writing w l =
-      let none : writingRefusal m (length d) ≡ 0 = writing m _ w ∙ rw (le-ltb (length d) (length (storedForm m)) l) in
+      let none : writingRefusal m (length d) ≡ 0 = passing m _ w ∙ rw (le-ltb (length d) (length (storedForm m)) l) in
       record {
         answer = ap (λ (k : ℕ). countAnswer k (length (storedForm m))) (sym none);
         output = ap (λ (k : ℕ). resultBuffer k d (storedForm m)) (sym none);
@@ -130,4 +131,4 @@ module _ (m : Mesh) (d : List ℕ) where
   promised-mesh r e z =
       let n = writingRefusal m (length d) in
       let none : n ≡ 0 = sym (count-refusal n (length (storedForm m))) ∙ ap (λ (x : CountAnswer). x .refusal) (sym e) ∙ z in
-      reads-back m (writable m _ none .0)
+      reads-back m (mesh-passes m _ none)

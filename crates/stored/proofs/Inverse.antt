@@ -15,13 +15,14 @@ use Rattle.rules.specs.declared.Counts.{Counts}
 use Rattle.rules.specs.Lists.{any}
 use Rattle.rules.specs.Mesh.{Mesh, topology}
 use Rattle.rules.specs.Counts.{countsOf, outOfRange, fewer}
-use Rattle.rules.specs.Refusals.{partialEntry, outside, cornerOutOfRange}
+use Rattle.rules.specs.Refusals.{partialEntry, countOutOfRange, outside, coordinateOutOfRange, cornerOutOfRange}
 use Rattle.rules.specs.EntryPoints.{countsAnswer, countAnswer, resultBuffer, resultTables}
 use Rattle.rules.specs.Bits.{number, bytesFor, filling, tableAt, Field, bitsIn, encode, widthOf}
 use Rattle.rules.specs.StoredForm.{toField, ofField, tableFields, headerFields, indexWidth, meshFields, storedForm, headerOf, layout, storedMesh, readingRefusal, readingAnswer, readingOutput, writingRefusal, writingAnswer, writingOutput}
 use Rattle.lists.proofs.Tests.{at-none, none-at, or-neither}
 use Rattle.integers.proofs.Range.{inside}
 use Rattle.soundness.proofs.Rounds.{in-range}
+use Rattle.checks.proofs.Passed.{TablesPass}
 use Rattle.checks.proofs.ByKind.{corner-tables}
 use Rattle.bits.specs.Writing.{Bytes, Fit}
 use Rattle.bits.proofs.Fields.{bytesFor-ge}
@@ -30,7 +31,7 @@ use Rattle.bits.proofs.Coordinates.{toField-lt, ofField-toField, ofField-near, 
 use Rattle.bits.proofs.Encoding.{Stand, bitsIn-append, fit-append, fit-table, length-encode, encode-filling, encoded-stand, stand-encoded, stand-parts}
 use Rattle.stored.specs.Form.{headerFor}
 use Rattle.stored.specs.Inverse.{WritesBack, ReadsBack}
-use Rattle.stored.proofs.Acceptance.{Accepted, Writable, writing, reading-accepts}
+use Rattle.stored.proofs.Acceptance.{Accepted, reading-accepts, passing, pass-range, pass-near}
 use Rattle.stored.proofs.Form.{tablesUnder, meshUnder, stored-under, under-sized, sized-counts, sized-whole, whole-sized, bits-under, bits-header, table-lt, under-stands, standing-header, standing-mesh}
 
 -- ---- numbers of a table
@@ -58,17 +59,17 @@ pub record Fits (m : Mesh) : Type 0 where
   pub segments : (i : ℕ) → getD (m .segments) i 0 < 2 ^ indexWidth (countsOf m)
   pub points : (i : ℕ) → getD (m .points) i 0 < 2 ^ indexWidth (countsOf m)
 
-pub fits : (m : Mesh) → Writable m → Fits m
+pub fits : (m : Mesh) → TablesPass m → Fits m
 unfolding outside indexWidth countsOf
 fits m w =
     let v : ℕ = countsOf m .vertices in
-    let some : 0 < v = in-range (countsOf m) (w .range) .some in
-    let e = sym (corner-tables m (w .entries)) ∙ w .corners in
+    let some : 0 < v = in-range (countsOf m) (pass-range m w) .some in
+    let e = sym (corner-tables m (w .whole)) ∙ w .known in
     let a = or-neither (any (leb v) (m .hexes)) _ e in
     let b = or-neither (any (leb v) (m .quads)) _ (a .1) in
     let c = or-neither (any (leb v) (m .segments)) _ (b .1) in
     record {
-      vertices = none-all outside (m .vertices) (pos 0) (w .near) refl;
+      vertices = none-all outside (m .vertices) (pos 0) (pass-near m w) refl;
       hexes = corner-lt v (m .hexes) some (a .0);
       quads = corner-lt v (m .quads) some (b .0);
       segments = corner-lt v (m .segments) some (c .0);
@@ -87,7 +88,7 @@ fit-header c e =
     let w : widthOf (c .vertices - 1) ≤ 20 = width-le 20 (c .vertices - 1) (omega arith) (omega (arith, r .vertices)) in
     (lit< tt, (omega arith, (omega (arith, r .vertices), (omega (arith, r .hexes), (omega (arith, r .quads), (omega (arith, r .segments), (omega (arith, r .points), tt)))))))
 
-pub fit-mesh : (m : Mesh) → Writable m → Fit (meshFields m)
+pub fit-mesh : (m : Mesh) → TablesPass m → Fit (meshFields m)
 fit-mesh m w =
     let f = fits m w in
     let h = headerFor (countsOf m) in
@@ -95,7 +96,7 @@ fit-mesh m w =
     let coordinates : Fit (tableFields 30 C) =
     fit-table 30 C (λ i. subst (λ (x : ℕ). x < 2 ^ 30) (sym (getD-toField (m .vertices) i)) (toField-lt (getD (m .vertices) i (pos 0)) (f .vertices i))) in
     subst (λ (fs : List Field). Fit fs) (sym (mesh-fields m))
-    (fit-append (headerFields h) (tablesUnder h m) (fit-header (countsOf m) (w .range))
+    (fit-append (headerFields h) (tablesUnder h m) (fit-header (countsOf m) (pass-range m w))
     (fit-append (tableFields 30 C) _ coordinates
     (fit-append (tableFields (h .width) (m .hexes)) _ (fit-table (h .width) (m .hexes) (f .hexes))
     (fit-append (tableFields (h .width) (m .quads)) _ (fit-table (h .width) (m .quads) (f .quads))
@@ -103,10 +104,10 @@ fit-mesh m w =
     (fit-table (h .width) (m .points) (f .points)))))))
 
 -- how long the stored form is
-pub stored-bits : (m : Mesh) → Writable m → bitsIn (meshFields m) ≡ layout (headerFor (countsOf m)) .end
-stored-bits m w = ap bitsIn (mesh-fields m) ∙ bits-under (headerFor (countsOf m)) m (whole-sized m (w .entries))
+pub stored-bits : (m : Mesh) → TablesPass m → bitsIn (meshFields m) ≡ layout (headerFor (countsOf m)) .end
+stored-bits m w = ap bitsIn (mesh-fields m) ∙ bits-under (headerFor (countsOf m)) m (whole-sized m (w .whole))
 
-pub stored-length : (m : Mesh) → Writable m → length (storedForm m) ≡ bytesFor (layout (headerFor (countsOf m)) .end)
+pub stored-length : (m : Mesh) → TablesPass m → length (storedForm m) ≡ bytesFor (layout (headerFor (countsOf m)) .end)
 unfolding storedForm
 stored-length m w = length-encode (meshFields m) ∙ ap bytesFor (stored-bits m w)
 
@@ -132,8 +133,9 @@ module _ (s : List ℕ) (a : Accepted s) where
       ∙ stand-encoded fs s bytes (under-stands s) (a .body .whole ∙ ap bytesFor (sym end))
       (ap (λ (n : ℕ). number s % 2 ^ filling n) end ∙ a .body .zeros)
 
-  pub writable-again : Writable (storedMesh s)
-  writable-again =
+  pub passes-again : TablesPass (storedMesh s)
+  unfolding countOutOfRange coordinateOutOfRange
+  passes-again =
       let h = headerOf s in
       let c = h .counts in
       let T = tableAt s (layout h .vertices) 30 (3 * c .vertices) in
@@ -141,10 +143,10 @@ module _ (s : List ℕ) (a : Accepted s) where
       at-none outside (map ofField T) (pos 0) (λ i l.
       ap outside (getD-ofField T i) ∙ inside (ofField (getD T i 0)) .1 (ofField-near (getD T i 0) (table-lt s (layout h .vertices) 30 (3 * c .vertices) i))) in
       record {
-        entries = ap partialEntry (stored-under s) ∙ sized-whole h (meshUnder s h) (under-sized s h);
-        range = ap outOfRange (ap countsOf (stored-under s) ∙ sized-counts h (meshUnder s h) (under-sized s h)) ∙ a .head .range;
-        near = ap (λ m. any outside (m .vertices)) (stored-under s) ∙ near;
-        corners = a .body .corners;
+        whole = ap partialEntry (stored-under s) ∙ sized-whole h (meshUnder s h) (under-sized s h);
+        counts = ap outOfRange (ap countsOf (stored-under s) ∙ sized-counts h (meshUnder s h) (under-sized s h)) ∙ a .head .range;
+        inside = ap (λ m. any outside (m .vertices)) (stored-under s) ∙ near;
+        known = a .body .corners;
       }
 
   pub writes-back : Bytes s → WritesBack s (storedMesh s)
@@ -153,7 +155,7 @@ module _ (s : List ℕ) (a : Accepted s) where
       let m = storedMesh s in
       let again = same-bytes bytes in
       let free : ltb (length buffer) (length (storedForm m)) ≡ false = le-ltb (length buffer) (length (storedForm m)) (omega (arith, ap length again)) in
-      let none : writingRefusal m (length buffer) ≡ 0 = writing m _ writable-again ∙ rw free in
+      let none : writingRefusal m (length buffer) ≡ 0 = passing m _ passes-again ∙ rw free in
       (ap₂ countAnswer none (ap length again), ap₂ (λ n t. resultBuffer n buffer t) none again)
 
 -- ---- what writing accepted, read back
@@ -162,7 +164,7 @@ coordinates-again : (xs : List ℤ) → ((i : ℕ) → outside (getD xs i (pos 0
 coordinates-again [] h = refl
 coordinates-again (z ∷ xs) h = ap₂ (λ (x : ℤ) (l : List ℤ). x ∷ l) (ofField-toField z (h 0)) (coordinates-again xs (λ i. h (suc i)))
 
-module _ (m : Mesh) (w : Writable m) where
+module _ (m : Mesh) (w : TablesPass m) where
   stands : let h = headerFor (countsOf m) in Stand (storedForm m) 0 (headerFields h) × Stand (storedForm m) 101 (tablesUnder h m)
   unfolding storedForm
   stands =
@@ -179,7 +181,7 @@ module _ (m : Mesh) (w : Writable m) where
   same-mesh =
       let s = storedForm m in
       stored-under s ∙ ap (meshUnder s) header-back
-      ∙ standing-mesh s (headerFor (countsOf m)) m (whole-sized m (w .entries)) (coordinates-again (m .vertices) (fits m w .vertices)) (stands .1)
+      ∙ standing-mesh s (headerFor (countsOf m)) m (whole-sized m (w .whole)) (coordinates-again (m .vertices) (fits m w .vertices)) (stands .1)
 
   pub accepted-back : Accepted (storedForm m)
   unfolding storedForm
@@ -191,11 +193,11 @@ module _ (m : Mesh) (w : Writable m) where
       let long = length-encode (meshFields m) in
       record {
         long = omega (arith, long, bytesFor-ge (bitsIn (meshFields m)), ap bitsIn (mesh-fields m), bitsIn-append (headerFields h) (tablesUnder h m), bits-header h);
-        head = record { range = ap outOfRange counts ∙ w .range; header = header-back ∙ ap headerFor (sym counts) };
+        head = record { range = ap outOfRange counts ∙ pass-range m w; header = header-back ∙ ap headerFor (sym counts) };
         body = record {
           whole = long ∙ ap bytesFor (sym end);
           zeros = ap (λ (n : ℕ). number s % 2 ^ filling n) end ∙ encode-filling (meshFields m) (fit-mesh m w);
-          corners = ap (λ x. cornerOutOfRange (topology x)) same-mesh ∙ w .corners;
+          corners = ap (λ x. cornerOutOfRange (topology x)) same-mesh ∙ w .known;
         };
       }
 

@@ -15,13 +15,14 @@ use Rattle.rules.specs.EntryPoints.{resultTables}
 use Rattle.rules.specs.Bits.{tableAt, Field, bitsIn}
 use Rattle.rules.specs.StoredForm.{toField, ofField, Header, tableFields, headerFields, indexWidth, meshFields, storedForm, headerOf, layout, storedMesh, readingRefusal}
 use Rattle.lists.proofs.Tests.{or-neither}
+use Rattle.checks.proofs.Passed.{TablesPass}
 use Rattle.bits.specs.Writing.{Bytes, putAll}
 use Rattle.bits.proofs.Fields.{bytesFor-ge}
 use Rattle.bits.proofs.Encoding.{bitsIn-append, bitsIn-table, length-encode}
 use Rattle.bits.proofs.Writing.{put-encode, putAll-append}
 use Rattle.stored.specs.declared.layout.Layout.{Layout}
 use Rattle.stored.specs.Form.{headerFor, Laid}
-use Rattle.stored.proofs.Acceptance.{reading-accepted, Writable}
+use Rattle.stored.proofs.Acceptance.{reading-accepted, pass-range}
 use Rattle.stored.proofs.Bounds.{small}
 use Rattle.stored.proofs.BodyChecks.{Body, body-known}
 use Rattle.stored.proofs.Form.{tablesUnder, bits-header, bits-tables}
@@ -109,7 +110,7 @@ mesh-put m h d a b e f g r p₁ p₂ p₃ p₄ p₅ e₁ e₂ e₃ e₄ e₅ las
     ∙ put-then (headerFields h) _ d a 0 p₁ 101 (bits-header h) (e₁ .0) (e₁ .1)
 
 -- is a buffer with the mesh's stored form at its front
-pub mesh-written : (m : Mesh) (d : List ℕ) → Bytes d → Writable m
+pub mesh-written : (m : Mesh) (d : List ℕ) → Bytes d → TablesPass m
     → let h = headerFor (countsOf m) in putAll d 0 (headerFields h ++ tablesUnder h m) ≡ overwritten d (storedForm m)
 unfolding storedForm
 mesh-written m d hd w = ap (putAll d 0) (sym (mesh-fields m)) ∙ put-encode (meshFields m) d hd (fit-mesh m w)
@@ -119,7 +120,7 @@ abbrev pub bitsOf : ℕ → Mesh → ℕ
 bitsOf w m = 101 + (30 * length (m .vertices) + (w * length (m .hexes) + (w * length (m .quads) + (w * length (m .segments) + w * length (m .points)))))
 
 -- lie in a buffer that has room for the stored form
-pub put-room : (m : Mesh) (d : List ℕ) → Writable m → length (storedForm m) ≤ length d
+pub put-room : (m : Mesh) (d : List ℕ) → TablesPass m → length (storedForm m) ≤ length d
     → let bits = bitsOf (indexWidth (countsOf m)) m in (bits ≤ 8 * length d) × (bits ≤ 2 ^ 60)
 unfolding storedForm layout
 put-room m d w l =
@@ -127,5 +128,5 @@ put-room m d w l =
     let bits : bitsIn (meshFields m) ≡ bitsOf (indexWidth (countsOf m)) m =
     ap bitsIn (mesh-fields m) ∙ bitsIn-append (headerFields h) (tablesUnder h m) ∙ ap₂ (λ (x y : ℕ). x + y) (bits-header h) (bits-tables h m) in
     let c = countsOf m in
-    let s = small (indexWidth c) c (w .range) refl in
+    let s = small (indexWidth c) c (pass-range m w) refl in
     (omega (arith, length-encode (meshFields m), bytesFor-ge (bitsIn (meshFields m)), bits), omega (arith, bits, stored-bits m w, s .range .vertices, s .hexes, s .quads, s .segments, s .points))

@@ -32,7 +32,7 @@ fieldsUnder s p rule n =
 
 -- ---- the header
 
--- a field's refusal as the header's
+-- a field's refusal as the header's; a value has none, which is number 0
 unfoldable pub handOn : Field → Head
 handOn (F.Value v c) = H.Refused 0
 handOn (F.Refused n) = H.Refused n

@@ -17,6 +17,7 @@ pub struct Rule {
     pub refusal: u32,
 }
 
+// What a field read answers.
 pub enum Field {
     Value(u32, Cursor),
     Refused(u32),

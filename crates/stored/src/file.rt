@@ -10,14 +10,12 @@ use crate::header::read_header;
 use crate::layout::layout_of;
 use rules::Counts;
 ghost use mathlib.Core.Path.{_≡_};
-ghost use Prim.Native.Nat.{_≤_};
-ghost use lib.ListN.{length};
 ghost use Rattle.rules.specs.StoredForm.{headerOf};
 ghost use Rattle.stored.specs.Reading.{headOf, headerChecks, bodyChecks, fileChecks};
 
 // What stands behind the header: 13 for the whole length, 16 for a filling bit, 4 for a corner.
 fn check_body(s: &[u8], c: Counts) -> Head
-    requires { ⌜ (13 ≤ length (now s)) × (headerChecks (now s) 0 ≡ 0) × (headerOf (now s) .counts ≡ c) ⌝ }
+    requires { ⌜ (headerChecks (now s) 0 ≡ 0) × (headerOf (now s) .counts ≡ c) ⌝ }
     ensures { λ r. ⌜ r ≡ headOf (bodyChecks (now (s .entry)) 0) c ⌝ }
 {
     let at = layout_of(c);

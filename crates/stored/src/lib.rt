@@ -22,12 +22,12 @@ ghost use Rattle.rules.specs.StoredForm.{storedForm, storedMesh, readingAnswer,
 ghost use Rattle.stored.specs.Reading.{answerOf};
 ghost use Rattle.stored.specs.Inverse.{WritesBack, ReadsBack};
 
-pub mod fields;
-pub mod file;
-pub mod header;
-pub mod layout;
-pub mod tables;
-pub mod writing;
+mod fields;
+mod file;
+mod header;
+mod layout;
+mod tables;
+mod writing;
 
 // The answer of a file's checks.
 fn answer_of(h: Head) -> CountsAnswer

@@ -32,13 +32,13 @@ fn put_header(d: &mut [u8], width: u32, c: Counts) -> usize
     requires { ⌜ (c .hexes < 2 ^ 18) × (c .quads < 2 ^ 18) × (c .segments < 2 ^ 18) × (c .points < 2 ^ 18) ⌝ }
     ensures { λ r. ⌜ (r ≡ 101) × (now (d .exit) ≡ putAll (now (d .entry)) 0 (headerFields (record { form = formNumber; width = width; counts = c }))) ⌝ }
 {
-    let a = bits::put_field(d, 0, 4, 1);
-    let b = bits::put_field(d, a, 5, width);
-    let e = bits::put_field(d, b, 20, c.vertices);
-    let f = bits::put_field(d, e, 18, c.hexes);
-    let g = bits::put_field(d, f, 18, c.quads);
-    let h = bits::put_field(d, g, 18, c.segments);
-    bits::put_field(d, h, 18, c.points)
+    let at = bits::put_field(d, 0, 4, 1);
+    let at = bits::put_field(d, at, 5, width);
+    let at = bits::put_field(d, at, 20, c.vertices);
+    let at = bits::put_field(d, at, 18, c.hexes);
+    let at = bits::put_field(d, at, 18, c.quads);
+    let at = bits::put_field(d, at, 18, c.segments);
+    bits::put_field(d, at, 18, c.points)
 }
 
 // Puts a mesh that passed its checks at the front of a buffer that has room.
@@ -55,10 +55,10 @@ pub fn put_mesh(
     requires { let m = mesh (now xs) (now hexes) (now quads) (now segments) (now points) in ⌜ (tableChecks m 0 ≡ 0) × (c ≡ countsOf m) × (width ≡ indexWidth c) × (length (storedForm m) ≤ length (now d)) ⌝ }
     ensures { λ _. ⌜ now (d .exit) ≡ overwritten (now (d .entry)) (storedForm (mesh (now (xs .entry)) (now (hexes .entry)) (now (quads .entry)) (now (segments .entry)) (now (points .entry)))) ⌝ }
 {
-    let a = put_header(d, width, c);
-    let b = bits::put_coordinates(d, a, xs);
-    let e = bits::put_table(d, b, width, hexes);
-    let f = bits::put_table(d, e, width, quads);
-    let g = bits::put_table(d, f, width, segments);
-    bits::put_table(d, g, width, points);
+    let at = put_header(d, width, c);
+    let at = bits::put_coordinates(d, at, xs);
+    let at = bits::put_table(d, at, width, hexes);
+    let at = bits::put_table(d, at, width, quads);
+    let at = bits::put_table(d, at, width, segments);
+    bits::put_table(d, at, width, points);
 }

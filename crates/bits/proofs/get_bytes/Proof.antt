@@ -9,22 +9,18 @@ use Rattle.bits.proofs.get_bytes.Statement.{statement}
 use Rattle.bits.proofs.get_bytes.Tie as tie
 
 abbrev Inv-loop : tie.InvT-loop
-Inv-loop s from to x₀ i₀ x i = (from ≤ i) × (i ≤ to) × (x ≡ number (take (i - from) (drop from s)))
+Inv-loop s from n x₀ i₀ x i = (i ≤ n) × (x ≡ number (take i (drop from s)))
 
 abbrev μ-loop : tie.MeasureT-loop
-μ-loop s from to x₀ i₀ x i = to - i
+μ-loop s from n x₀ i₀ x i = n - i
 
 loop-holds : tie.Need-loop-holds Inv-loop μ-loop
-loop-holds c =
-    let a = c .before .args in
-    let none : 0 ≡ a .from - a .from = omega arith in
-    (omega arith, omega arith, window-none (a .s .now) (a .from) ∙ ap (λ (n : ℕ). number (take n (drop (a .from) (a .s .now)))) none)
-
-shared-slice-read-append : tie.Need-shared-slice-read-append Inv-loop μ-loop
-shared-slice-read-append c = omega arith
+loop-holds c = let a = c .before .args in (omega arith, window-none (a .s .now) (a .from))
 
 cast-append : tie.Need-cast-append Inv-loop μ-loop
-cast-append c = omega (arith, c .shared-slice-known2 .given (c .before .before .loop .i))
+cast-append c =
+    let at-loop = c .before .before in
+    omega (arith, c .shared-slice-known2 .given (at-loop .before .before .args .from + at-loop .loop .i))
 
 append-requires : tie.Need-append-requires Inv-loop μ-loop
 append-requires c κs =
@@ -32,15 +28,8 @@ append-requires c κs =
     let a = at-loop .before .before .args in
     let i = at-loop .loop .i in
     let bytes = c .shared-slice-known2 .given in
-    let four : number (take (i - a .from) (drop (a .from) (a .s .now))) < 2 ^ 32 =
-    window-lt (a .s .now) (a .from) (i - a .from) 4 (λ j. bytes j .fits) (omega arith) in
-    (omega arith, omega (arith, at-loop .loop .inv .2, four), bytes i .fits)
-
-add-i : tie.Need-add-i Inv-loop μ-loop
-add-i c = omega arith
-
-loop-less : tie.Need-loop-less Inv-loop μ-loop
-loop-less c = omega arith
+    let four : number (take i (drop (a .from) (a .s .now))) < 2 ^ 32 = window-lt (a .s .now) (a .from) i 4 (λ j. bytes j .fits) (omega arith) in
+    (omega arith, omega (arith, at-loop .loop .inv .1, four), bytes (a .from + i) .fits)
 
 loop-again : tie.Need-loop-again Inv-loop μ-loop
 loop-again c =
@@ -48,17 +37,16 @@ loop-again c =
     let a = at-loop .before .before .args in
     let i = at-loop .loop .i in (
       omega arith,
-      omega arith,
       c .append .ensures
-          ∙ ap (λ (n : ℕ). n * 2 ^ 8 + getD (a .s .now) i 0) (at-loop .loop .inv .2)
-          ∙ sym (window-step (a .s .now) (a .from) i (omega arith) (omega arith)),
+          ∙ ap (λ (n : ℕ). n * 2 ^ 8 + getD (a .s .now) (a .from + i) 0) (at-loop .loop .inv .1)
+          ∙ sym (window-step (a .s .now) (a .from) i (omega arith)),
     )
 
 returns : tie.Need-returns Inv-loop μ-loop
 returns c =
     let a = c .before .before .before .args in
-    let end : c .before .loop .i ≡ a .to = omega arith in
-    c .before .loop .inv .2 ∙ ap (λ (n : ℕ). number (take (n - a .from) (drop (a .from) (a .s .now)))) end
+    let end : c .before .loop .i ≡ a .n = omega arith in
+    c .before .loop .inv .1 ∙ ap (λ (n : ℕ). number (take n (drop (a .from) (a .s .now)))) end
 
 pub get-bytes-spec : {M : Type 1} → statement M
 get-bytes-spec =
@@ -67,10 +55,11 @@ get-bytes-spec =
     Inv-loop
     μ-loop
     loop-holds
-    shared-slice-read-append
+    (λ c. omega arith)
+    (λ c. omega arith)
     cast-append
     append-requires
-    add-i
-    loop-less
+    (λ c. omega arith)
+    (λ c. omega arith)
     loop-again
     returns)

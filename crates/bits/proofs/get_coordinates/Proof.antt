@@ -1,11 +1,10 @@
 -- `bits::get_coordinates` meets its contract, as `get_table` does, over the coordinates of the fields.
 use borrow.Author.Needs.{needs}
 use Prim.Native.Nat.{ℕ, _+_, _-_, _*_, _^_, _≤_, _<_}
-use mathlib.Core.Path.{_≡_, refl, sym, ap, ap₂, _∙_, subst}
+use mathlib.Core.Path.{_≡_, sym, ap, _∙_, subst}
 use mathlib.Core.List.{List, map}
 use native.Mathlib.Omega.{arith}
-use lib.ListN.{length, getD, set, length-set, length-map}
-use lib.Seq.{paste}
+use lib.ListN.{length, getD, length-map}
 use lib.IntN.{ℤ, pos}
 use lib.Signed.{mag}
 use mir.Syntax.{w32}
@@ -13,44 +12,29 @@ use mir.Val.{toZ, ofZ}
 use Rattle.rules.specs.Bits.{fieldAt, tableAt}
 use Rattle.rules.specs.StoredForm.{ofField}
 use Rattle.bits.proofs.Fields.{field-lt}
-use Rattle.bits.proofs.Tables.{length-tableAt, getD-tableAt, front-step, front-all}
+use Rattle.memory.proofs.Stores.{Storing, store-start, front-turn, store-end, sets-front}
+use Rattle.bits.proofs.Tables.{length-tableAt, getD-tableAt}
 use Rattle.bits.proofs.Coordinates.{ofField-near, kept, getD-ofField}
 use Rattle.bits.proofs.get_coordinates.Statement.{statement}
 use Rattle.bits.proofs.get_coordinates.Tie as tie
 
 abbrev Inv-loop : tie.InvT-loop
 Inv-loop s at t₀ n p₀ i₀ t p i =
-    (i ≤ n) × (p ≡ at + 30 * i) × (t ≡ paste t₀ 0 (map ofField (tableAt s at 30 n)) i) × (length t ≡ length t₀)
+    (i ≤ n) × (p ≡ at + 30 * i) × Storing 0 (map ofField (tableAt s at 30 n)) t₀ t i
 
 abbrev μ-loop : tie.MeasureT-loop
 μ-loop s at t₀ n p₀ i₀ t p i = n - i
 
 loop-holds : tie.Need-loop-holds Inv-loop μ-loop
-loop-holds c = (omega arith, omega arith, refl, refl)
-
-get-field-requires : tie.Need-get-field-requires Inv-loop μ-loop
-get-field-requires c κs = search needs
+loop-holds c =
+    let a = c .before .args in
+    (omega arith, omega arith, store-start 0 (map ofField (tableAt (a .s .now) (a .at) 30 (a .n))) (a .t .now))
 
 of-field-requires : tie.Need-of-field-requires Inv-loop μ-loop
 of-field-requires c κs =
     let at-loop = c .before .before in
     let a = at-loop .before .before .args in
     subst (λ (x : ℕ). x < 2 ^ 30) (sym (c .get-field .ensures)) (field-lt (a .s .now) (at-loop .loop .p) 30)
-
-mul-t10 : tie.Need-mul-t10 Inv-loop μ-loop
-mul-t10 c = search needs
-
-slice-set-from-t : tie.Need-slice-set-from-t Inv-loop μ-loop
-slice-set-from-t c = search needs
-
-add-p : tie.Need-add-p Inv-loop μ-loop
-add-p c = search needs
-
-add-i : tie.Need-add-i Inv-loop μ-loop
-add-i c = search needs
-
-loop-less : tie.Need-loop-less Inv-loop μ-loop
-loop-less c = search needs
 
 loop-again : tie.Need-loop-again Inv-loop μ-loop
 loop-again c =
@@ -69,13 +53,8 @@ loop-again c =
     let long : length Z ≡ a .n = length-map T ofField ∙ length-tableAt (a .s .now) (a .at) 30 (a .n) in (
       omega arith,
       omega arith,
-      ap₂ (λ (l : List ℤ) (v : ℤ). set l i v) (at-loop .loop .inv .2) entry
-          ∙ front-step (a .t .now) Z (pos 0) i (omega arith) (omega arith),
-      length-set (at-loop .loop .t) i (toZ w32 (ofZ w32 (c .of-field .result))) ∙ at-loop .loop .inv .3,
+      front-turn (pos 0) entry (at-loop .loop .inv .2) (omega arith),
     )
-
-same-length : tie.Need-same-length Inv-loop μ-loop
-same-length c = search needs
 
 returns : tie.Need-returns Inv-loop μ-loop
 returns c =
@@ -83,7 +62,7 @@ returns c =
     let a = at-loop .before .before .args in
     let T : List ℕ = tableAt (a .s .now) (a .at) 30 (a .n) in
     let long : length (map ofField T) ≡ a .n = length-map T ofField ∙ length-tableAt (a .s .now) (a .at) 30 (a .n) in
-    at-loop .loop .inv .2 ∙ front-all (a .t .now) (map ofField T) (at-loop .loop .i) (omega arith)
+    store-end (at-loop .loop .inv .2) (omega arith) ∙ sets-front (a .t .now) (map ofField T) (omega arith)
 
 pub get-coordinates-spec : {M : Type 1} → statement M
 get-coordinates-spec =
@@ -92,13 +71,13 @@ get-coordinates-spec =
     Inv-loop
     μ-loop
     loop-holds
-    get-field-requires
+    (λ c κs. search needs)
     of-field-requires
-    mul-t10
-    slice-set-from-t
-    add-p
-    add-i
-    loop-less
+    (λ c. search needs)
+    (λ c. search needs)
+    (λ c. search needs)
+    (λ c. search needs)
+    (λ c. search needs)
     loop-again
-    same-length
+    (λ c. search needs)
     returns)

@@ -10,34 +10,14 @@ use Rattle.bits.proofs.Windows.{field-window}
 use Rattle.bits.proofs.get_field.Statement.{statement}
 use Rattle.bits.proofs.get_field.Tie as tie
 
-add-end : tie.Need-add-end
-add-end c = search needs
-
-add-to : tie.Need-add-to
-add-to c = search needs
-
-get-bytes-requires : tie.Need-get-bytes-requires
-get-bytes-requires c κs = search needs
-
-mul-cut : tie.Need-mul-cut
-mul-cut c = search needs
-
-sub-cut : tie.Need-sub-cut
-sub-cut c = search needs
-
-cast-cut : tie.Need-cast-cut
-cast-cut c = search needs
-
-cut-requires : tie.Need-cut-requires
-cut-requires c κs = search needs
-
 returns : tie.Need-returns
 returns c =
     let a = c .before .before .before .args in
-    let to : ℕ = (a .at + a .k + 7) / 8 in
+    let from : ℕ = a .at / 8 in
+    let n : ℕ = (a .at + a .k + 7) / 8 - from in
     c .cut .ensures
-    ∙ ap (λ (n : ℕ). n / 2 ^ (8 * to - (a .at + a .k)) % 2 ^ a .k) (c .before .get-bytes .ensures)
-    ∙ field-window (a .s .now) (a .at) (a .k) (a .at / 8) to (λ j. c .before .before .shared-slice-known .given j .fits) (omega arith) (omega arith) (omega arith) (omega arith)
+    ∙ ap (λ (x : ℕ). x / 2 ^ (8 * (from + n) - (a .at + a .k)) % 2 ^ a .k) (c .before .get-bytes .ensures)
+    ∙ field-window (a .s .now) (a .at) (a .k) from n (λ j. c .before .before .shared-slice-known .given j .fits) (omega arith) (omega arith) (omega arith)
 
 cast-result : tie.Need-cast-result
 cast-result c =
@@ -48,4 +28,15 @@ cast-result c =
 pub get-field-spec : {M : Type 1} → statement M
 get-field-spec =
     tie.close
-    (tie.spec add-end add-to get-bytes-requires mul-cut sub-cut cast-cut cut-requires cast-result returns)
+    (tie.spec
+    (λ c. search needs)
+    (λ c. search needs)
+    (λ c. search needs)
+    (λ c. search needs)
+    (λ c. search needs)
+    (λ c. search needs)
+    (λ c. search needs)
+    (λ c κs. search needs)
+    (λ c κs. search needs)
+    cast-result
+    returns)

@@ -1,25 +1,27 @@
 -- `bits::get_table` meets its contract. The loop's invariant: the first i entries stand at the front of t, whose rest is as it was.
 use borrow.Author.Needs.{needs}
 use Prim.Native.Nat.{ℕ, _+_, _-_, _*_, _^_, _≤_}
-use mathlib.Core.Path.{_≡_, refl, sym, ap, ap₂, _∙_}
+use mathlib.Core.Path.{_≡_, sym, ap, _∙_}
 use mathlib.Core.List.{List}
 use native.Mathlib.Nat.{mul-zero}
 use native.Mathlib.Omega.{arith}
-use lib.ListN.{length, getD, set, length-set}
-use lib.Seq.{paste}
+use lib.ListN.{length, getD}
 use Rattle.rules.specs.Bits.{fieldAt, tableAt}
-use Rattle.bits.proofs.Tables.{length-tableAt, getD-tableAt, next-room, front-step, front-all}
+use Rattle.memory.proofs.Stores.{Storing, store-start, front-turn, store-end, sets-front}
+use Rattle.bits.proofs.Tables.{length-tableAt, getD-tableAt, next-room}
 use Rattle.bits.proofs.get_table.Statement.{statement}
 use Rattle.bits.proofs.get_table.Tie as tie
 
 abbrev Inv-loop : tie.InvT-loop
-Inv-loop s at w t₀ n p₀ i₀ t p i = (i ≤ n) × (p ≡ at + w * i) × (t ≡ paste t₀ 0 (tableAt s at w n) i) × (length t ≡ length t₀)
+Inv-loop s at w t₀ n p₀ i₀ t p i = (i ≤ n) × (p ≡ at + w * i) × Storing 0 (tableAt s at w n) t₀ t i
 
 abbrev μ-loop : tie.MeasureT-loop
 μ-loop s at w t₀ n p₀ i₀ t p i = n - i
 
 loop-holds : tie.Need-loop-holds Inv-loop μ-loop
-loop-holds c = (omega arith, omega (arith, mul-zero (c .before .before .args .w)), refl, refl)
+loop-holds c =
+    let a = c .before .before .args in
+    (omega arith, omega (arith, mul-zero (a .w)), store-start 0 (tableAt (a .s .now) (a .at) (a .w) (a .n)) (a .t .now))
 
 -- the next entry lies in the file
 room : (c : tie.In-loop Inv-loop μ-loop)
@@ -36,20 +38,8 @@ room c =
 get-field-requires : tie.Need-get-field-requires Inv-loop μ-loop
 get-field-requires c κs = (omega arith, room c .0, room c .1)
 
-mul-t : tie.Need-mul-t Inv-loop μ-loop
-mul-t c = search needs
-
-slice-write-t : tie.Need-slice-write-t Inv-loop μ-loop
-slice-write-t c = search needs
-
 add-p : tie.Need-add-p Inv-loop μ-loop
 add-p c = omega (arith, room (c .before))
-
-add-i : tie.Need-add-i Inv-loop μ-loop
-add-i c = search needs
-
-loop-less : tie.Need-loop-less Inv-loop μ-loop
-loop-less c = search needs
 
 loop-again : tie.Need-loop-again Inv-loop μ-loop
 loop-again c =
@@ -63,21 +53,16 @@ loop-again c =
     ∙ sym (getD-tableAt (a .s .now) (a .at) (a .w) (a .n) i (omega arith)) in (
       omega arith,
       omega arith,
-      ap₂ (λ (l : List ℕ) (v : ℕ). set l i v) (at-loop .loop .inv .2) entry
-          ∙ front-step (a .t .now) T 0 i (omega arith) (omega (arith, length-tableAt (a .s .now) (a .at) (a .w) (a .n))),
-      length-set (at-loop .loop .t) i (c .get-field .result) ∙ at-loop .loop .inv .3,
+      front-turn 0 entry (at-loop .loop .inv .2) (omega (arith, length-tableAt (a .s .now) (a .at) (a .w) (a .n))),
     )
-
-same-length : tie.Need-same-length Inv-loop μ-loop
-same-length c = search needs
 
 returns : tie.Need-returns Inv-loop μ-loop
 returns c =
     let at-loop = c .before in
     let a = at-loop .before .before .before .args in
     let T : List ℕ = tableAt (a .s .now) (a .at) (a .w) (a .n) in
-    at-loop .loop .inv .2
-    ∙ front-all (a .t .now) T (at-loop .loop .i) (omega (arith, length-tableAt (a .s .now) (a .at) (a .w) (a .n)))
+    let n = length-tableAt (a .s .now) (a .at) (a .w) (a .n) in
+    store-end (at-loop .loop .inv .2) (omega arith) ∙ sets-front (a .t .now) T (omega arith)
 
 pub get-table-spec : {M : Type 1} → statement M
 get-table-spec =
@@ -87,11 +72,11 @@ get-table-spec =
     μ-loop
     loop-holds
     get-field-requires
-    mul-t
-    slice-write-t
+    (λ c. search needs)
+    (λ c. search needs)
     add-p
-    add-i
-    loop-less
+    (λ c. search needs)
+    (λ c. search needs)
     loop-again
-    same-length
+    (λ c. search needs)
     returns)

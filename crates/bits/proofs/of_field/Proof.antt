@@ -12,12 +12,6 @@ use Rattle.bits.proofs.Coordinates.{ofField-near, low-half, take-off}
 use Rattle.bits.proofs.of_field.Statement.{statement}
 use Rattle.bits.proofs.of_field.Tie as tie
 
-cast-result : tie.Need-cast-result
-cast-result c = search needs
-
-cast-result-2 : tie.Need-cast-result-2
-cast-result-2 c = search needs
-
 difference : (c : tie.Else1) → toZ w32 (c .before .args .v) -ℤ pos (2 ^ 30) ≡ ofField (c .before .args .v)
 difference c =
     let v = c .before .args .v in
@@ -34,4 +28,4 @@ returns-2 : tie.Need-returns-2
 returns-2 c = toZ-ofZ (sub-result c) ∙ difference c
 
 pub of-field-spec : {M : Type 1} → statement M
-of-field-spec = tie.close (tie.spec cast-result cast-result-2 sub-result returns returns-2)
+of-field-spec = tie.close (tie.spec (λ c. search needs) (λ c. search needs) sub-result returns returns-2)

@@ -31,12 +31,6 @@ loop-holds c =
     let a = c .before .args in
     (omega arith, omega arith, put-none (a .d .now) (map toField (a .t .now)) (a .at) 30, refl)
 
-mul-to-field : tie.Need-mul-to-field Inv-loop μ-loop
-mul-to-field c = search needs
-
-shared-slice-copy-out-to-field : tie.Need-shared-slice-copy-out-to-field Inv-loop μ-loop
-shared-slice-copy-out-to-field c = search needs
-
 -- the coordinate, as the local holds it
 same : (start : tie.Start Inv-loop μ-loop) (i : ℕ) → let z = getD (start .args .t .now) i (pos 0) in toZ w32 (ofZ w32 z) ≡ z
 same start i =
@@ -64,12 +58,6 @@ put-field-requires c κs =
     let z = getD (start .args .t .now) (at-loop .loop .i) (pos 0) in
     (omega arith, omega arith, omega (arith, entry c, toField-lt z (start .pre .1 (at-loop .loop .i))), omega arith, omega arith)
 
-add-i : tie.Need-add-i Inv-loop μ-loop
-add-i c = search needs
-
-loop-less : tie.Need-loop-less Inv-loop μ-loop
-loop-less c = search needs
-
 loop-again : tie.Need-loop-again Inv-loop μ-loop
 loop-again c =
     let at-put = c .before .before in
@@ -86,9 +74,6 @@ loop-again c =
           ∙ put-step (a .d .now) T (a .at) 30 i (omega (arith, length-map (a .t .now) toField)),
       at-put .put-field .kept .0 ∙ at-loop .loop .inv .3,
     )
-
-same-length : tie.Need-same-length Inv-loop μ-loop
-same-length c = search needs
 
 returns : tie.Need-returns Inv-loop μ-loop
 returns c =
@@ -107,12 +92,12 @@ put-coordinates-spec =
     Inv-loop
     μ-loop
     loop-holds
-    mul-to-field
-    shared-slice-copy-out-to-field
+    (λ c. search needs)
+    (λ c. search needs)
     to-field-requires
     put-field-requires
-    add-i
-    loop-less
+    (λ c. search needs)
+    (λ c. search needs)
     loop-again
-    same-length
+    (λ c. search needs)
     returns)

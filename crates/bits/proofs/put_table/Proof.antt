@@ -25,12 +25,6 @@ loop-holds c =
     let a = c .before .before .args in
     (omega arith, omega (arith, mul-zero (a .w)), put-none (a .d .now) (a .t .now) (a .at) (a .w), refl)
 
-mul-put-field : tie.Need-mul-put-field Inv-loop μ-loop
-mul-put-field c = search needs
-
-shared-slice-read-put-field : tie.Need-shared-slice-read-put-field Inv-loop μ-loop
-shared-slice-read-put-field c = search needs
-
 put-field-requires : tie.Need-put-field-requires Inv-loop μ-loop
 put-field-requires c κs =
     let at-loop = c .before .before .before in
@@ -45,12 +39,6 @@ put-field-requires c κs =
       omega (arith, next-room (a .at) (a .w) i n (2 ^ 60) (omega arith) (omega arith)),
     )
 
-add-i : tie.Need-add-i Inv-loop μ-loop
-add-i c = search needs
-
-loop-less : tie.Need-loop-less Inv-loop μ-loop
-loop-less c = search needs
-
 loop-again : tie.Need-loop-again Inv-loop μ-loop
 loop-again c =
     let at-put = c .before .before in
@@ -64,9 +52,6 @@ loop-again c =
           ∙ put-step (a .d .now) (a .t .now) (a .at) (a .w) i (omega arith),
       at-put .put-field .kept .0 ∙ at-loop .loop .inv .3,
     )
-
-same-length : tie.Need-same-length Inv-loop μ-loop
-same-length c = search needs
 
 returns : tie.Need-returns Inv-loop μ-loop
 returns c =
@@ -84,11 +69,11 @@ put-table-spec =
     Inv-loop
     μ-loop
     loop-holds
-    mul-put-field
-    shared-slice-read-put-field
+    (λ c. search needs)
+    (λ c. search needs)
     put-field-requires
-    add-i
-    loop-less
+    (λ c. search needs)
+    (λ c. search needs)
     loop-again
-    same-length
+    (λ c. search needs)
     returns)

@@ -9,8 +9,9 @@ use Rattle.rules.specs.Counts.{countsOf, outOfRange}
 use Rattle.rules.specs.Refusals.{tableChecks}
 use Rattle.rules.specs.Bits.{bytesFor}
 use Rattle.rules.specs.StoredForm.{layout, storedForm}
+use Rattle.checks.proofs.Passed.{TablesPass, tables-pass}
 use Rattle.stored.specs.Form.{headerFor}
-use Rattle.stored.proofs.Acceptance.{Writable, writable}
+use Rattle.stored.proofs.Acceptance.{pass-range}
 use Rattle.stored.proofs.Inverse.{stored-length}
 use Rattle.stored.proofs.Answers.{mesh-refused, buffer-refused, accepted-writing, promised-mesh}
 use Rattle.stored.proofs.write.Statement.{statement}
@@ -33,19 +34,19 @@ returns c =
 passed : (c : tie.Else1) → tableChecks (whole (start (c .before))) 0 ≡ 0
 passed c = sym (c .before .table-refusal .ensures) ∙ c .if1 .left
 
-accepted : (c : tie.Else1) → Writable (whole (start (c .before)))
-accepted c = writable (whole (start (c .before))) 0 (passed c) .0
+accepted : (c : tie.Else1) → TablesPass (whole (start (c .before)))
+accepted c = tables-pass (whole (start (c .before))) (passed c)
 
 counts-of-requires : tie.Need-counts-of-requires
 unfolding countsOf
-counts-of-requires c κs = accepted c .range
+counts-of-requires c κs = pass-range (whole (start (c .before))) (accepted c)
 
 counts : (c : tie.After-counts-of) → c .counts-of .result ≡ countsOf (whole (start (c .before .before)))
 unfolding countsOf
 counts c = c .counts-of .ensures
 
 layout-of-requires : tie.Need-layout-of-requires
-layout-of-requires c κs = ap outOfRange (counts c) ∙ accepted (c .before) .range
+layout-of-requires c κs = ap outOfRange (counts c) ∙ pass-range (whole (start (c .before .before))) (accepted (c .before))
 
 -- the bytes that the layout calls for
 bytes : (c : tie.After-layout-of) → c .layout-of .result .bytes ≡ length (storedForm (whole (start (c .before .before .before))))

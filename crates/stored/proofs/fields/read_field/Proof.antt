@@ -5,9 +5,6 @@ use Rattle.stored.specs.Fields.{breaks, fieldUnder}
 use Rattle.stored.proofs.fields.read_field.Statement.{statement}
 use Rattle.stored.proofs.fields.read_field.Tie as tie
 
-get-field-requires : tie.Need-get-field-requires
-get-field-requires c κs = search needs
-
 returns : tie.Need-returns
 unfolding fieldUnder breaks
 returns c = rw (← c .before .before .get-field .ensures, lt-ltb _ _ (c .if1 .taken))
@@ -18,12 +15,6 @@ returns-2 c =
     let at-1 = c .before .before in
     rw (← at-1 .before .before .get-field .ensures, le-ltb _ _ (at-1 .if1 .left), lt-ltb _ _ (c .if2 .taken))
 
-cast-t8 : tie.Need-cast-t8
-cast-t8 c = search needs
-
-add-t9 : tie.Need-add-t9
-add-t9 c = search needs
-
 returns-3 : tie.Need-returns-3
 unfolding fieldUnder breaks
 returns-3 c =
@@ -32,4 +23,4 @@ returns-3 c =
 
 pub read-field-spec : {M : Type 1} → statement M
 read-field-spec =
-    tie.close (tie.spec get-field-requires returns returns-2 cast-t8 add-t9 returns-3)
+    tie.close (tie.spec (λ c κs. search needs) returns returns-2 (λ c. search needs) (λ c. search needs) returns-3)

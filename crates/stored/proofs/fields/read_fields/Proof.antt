@@ -44,9 +44,6 @@ read-field-requires c κs =
       omega (arith, next-room (a .c .at) (a .rule .width) i (a .n) (2 ^ 60) (omega arith) (omega arith)),
     )
 
-enum-known-f : tie.Need-enum-known-f Inv-loop μ-loop
-enum-known-f c = search needs
-
 enum-told : tie.Need-enum-told Inv-loop μ-loop
 enum-told c = search needs
 
@@ -68,12 +65,6 @@ returns c =
     let told = c .enum-told .given .1 in
     told
     ∙ sym (fields-broken (a .s .now) (a .c .at) (a .n) (at-loop .loop .i) _ (a .rule) (omega arith) (field-broken (sym (read at-read) ∙ told)))
-
-add-i : tie.Need-add-i Inv-loop μ-loop
-add-i c = search needs
-
-loop-less : tie.Need-loop-less Inv-loop μ-loop
-loop-less c = search needs
 
 loop-again : tie.Need-loop-again Inv-loop μ-loop
 loop-again c =
@@ -105,10 +96,10 @@ read-fields-spec =
     μ-loop
     loop-holds
     read-field-requires
-    enum-known-f
+    (λ c. search needs)
     enum-told
     returns
-    add-i
-    loop-less
+    (λ c. search needs)
+    (λ c. search needs)
     loop-again
     returns-2)

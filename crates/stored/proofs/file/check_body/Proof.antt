@@ -5,23 +5,23 @@ use mathlib.Core.Bool.{false}
 use native.Mathlib.Omega.{arith}
 use Rattle.rules.specs.declared.Counts.{Counts}
 use Rattle.rules.specs.Counts.{outOfRange}
-use Rattle.stored.specs.Fields.{handOn}
+use Rattle.stored.specs.Fields.{fieldUnder, fieldsUnder, handOn}
 use Rattle.stored.proofs.Acceptance.{header-accepted}
-use Rattle.stored.proofs.BodyChecks.{Body, body-known, wrong-length, spare-bit, corner, body-passed}
+use Rattle.stored.proofs.BodyChecks.{spareRule, cornerRule, Body, body-known, wrong-length, spare-bit, corner, body-passed}
 use Rattle.stored.proofs.file.check_body.Statement.{statement}
 use Rattle.stored.proofs.file.check_body.Tie as tie
 
 layout-of-requires : tie.Need-layout-of-requires
 layout-of-requires c κs =
     let start = c .before in
-    subst (λ (d : Counts). outOfRange d ≡ false) (start .pre .2) (header-accepted (start .args .s .now) 0 (start .pre .1) .0 .range)
+    subst (λ (d : Counts). outOfRange d ≡ false) (start .pre .1) (header-accepted (start .args .s .now) 0 (start .pre .0) .0 .range)
 
 -- what is known behind the header
 body : (c : tie.After-layout-of) → let a = c .before .before .args in Body (a .s .now) (a .c) (c .layout-of .result)
 body c =
     let start = c .before .before in
     let a = start .args in
-    body-known (a .s .now) (a .c) (c .layout-of .result) (header-accepted (a .s .now) 0 (start .pre .1) .0) (start .pre .2) (c .layout-of .ensures)
+    body-known (a .s .now) (a .c) (c .layout-of .result) (header-accepted (a .s .now) 0 (start .pre .0) .0) (start .pre .1) (c .layout-of .ensures)
 
 returns : tie.Need-returns
 returns c = sym (wrong-length (body (c .before .before)) (c .if1 .taken))
@@ -38,6 +38,20 @@ cast-t11 c = omega (arith, body (c .before .before .before .before) .numbers)
 read-field-requires : tie.Need-read-field-requires
 read-field-requires c κs = omega (arith, body (c .before .before .before .before) .numbers, c .before .before .if1 .left)
 
+-- the two reads, by their rules
+spare-read : (c : tie.After-read-field)
+    → let at-layout = c .before .before .before .before .before in
+    let at = at-layout .layout-of .result in
+    c .read-field .result ≡ fieldUnder (at-layout .before .before .args .s .now) (at .end) (spareRule at)
+spare-read c = c .read-field .ensures
+
+row-read : (c : tie.After-read-fields)
+    → let at-layout = c .before .before .before .before .before .before .before .before .before in
+    let at = at-layout .layout-of .result in
+    let a = at-layout .before .before .args in
+    c .read-fields .result ≡ fieldsUnder (a .s .now) (at .hexes) (cornerRule at (a .c)) (at .corners)
+row-read c = c .read-fields .ensures
+
 returns-2 : tie.Need-returns-2
 unfolding handOn
 returns-2 c =
@@ -45,10 +59,10 @@ returns-2 c =
     let read = c .before .before .before in
     let at-if = read .before .before .before in
     c .hand-on .ensures ∙ ap handOn told
-    ∙ sym (spare-bit (body (at-if .before .before)) (at-if .if1 .left) (sym (read .read-field .ensures) ∙ told))
+    ∙ sym (spare-bit (body (at-if .before .before)) (at-if .if1 .left) (sym (spare-read read) ∙ told))
 
 sub-t11 : tie.Need-sub-t11
-sub-t11 c = body (c .before .before .before .before .before .before .before .before) .small .range .some
+sub-t11 c = omega (arith, body (c .before .before .before .before .before .before .before .before) .small .range .some)
 
 read-fields-requires : tie.Need-read-fields-requires
 read-fields-requires c κs =
@@ -65,7 +79,7 @@ returns-3 c =
     let read = spare .before .before in
     let at-if = read .before .before .before in
     c .hand-on2 .ensures ∙ ap handOn told
-    ∙ sym (corner (body (at-if .before .before)) (at-if .if1 .left) (sym (read .read-field .ensures) ∙ spare .enum-told .given .1) (sym (row .read-fields .ensures) ∙ told))
+    ∙ sym (corner (body (at-if .before .before)) (at-if .if1 .left) (sym (spare-read read) ∙ spare .enum-told .given .1) (sym (row-read row) ∙ told))
 
 returns-4 : tie.Need-returns-4
 returns-4 c =
@@ -73,7 +87,7 @@ returns-4 c =
     let spare = row .before .before in
     let read = spare .before .before in
     let at-if = read .before .before .before in
-    sym (body-passed (body (at-if .before .before)) (at-if .if1 .left) (sym (read .read-field .ensures) ∙ spare .enum-told .given .1) (sym (row .read-fields .ensures) ∙ c .enum-told3 .given .1))
+    sym (body-passed (body (at-if .before .before)) (at-if .if1 .left) (sym (spare-read read) ∙ spare .enum-told .given .1) (sym (row-read row) ∙ c .enum-told3 .given .1))
 
 pub check-body-spec : {M : Type 1} → statement M
 check-body-spec =

@@ -39,7 +39,7 @@ header c =
     head-read (headerChecks s 0) (headerOf s .counts) _ (sym (read .read-header .ensures) ∙ c .before .h .given .1)
 
 check-body-requires : tie.Need-check-body-requires
-check-body-requires c κs = (c .before .before .before .before .if1 .left, header c .0, header c .1)
+check-body-requires c κs = header c
 
 returns-3 : tie.Need-returns-3
 returns-3 c =

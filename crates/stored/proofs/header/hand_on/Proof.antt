@@ -8,9 +8,6 @@ use Rattle.stored.proofs.header.hand_on.Tie as tie
 enum-told : tie.Need-enum-told
 enum-told c = search needs
 
-enum-known-f : tie.Need-enum-known-f
-enum-known-f c = search needs
-
 returns : tie.Need-returns
 unfolding handOn
 returns c = sym (ap handOn (c .enum-told .given .1))
@@ -20,4 +17,4 @@ unfolding handOn
 returns-2 c = sym (ap handOn (c .before .f .given .1))
 
 pub hand-on-spec : {M : Type 1} → statement M
-hand-on-spec = tie.close (tie.spec enum-told enum-known-f returns returns-2)
+hand-on-spec = tie.close (tie.spec enum-told (λ c. search needs) returns returns-2)

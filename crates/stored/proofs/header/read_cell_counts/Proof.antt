@@ -29,9 +29,6 @@ at-points c =
     field-kept (sym (c .before .before .before .read-field3 .ensures) ∙ c .before .f2 .given .1) .next
     ∙ omega (arith, at-segments (c .before .before .before .before))
 
-read-field-requires : tie.Need-read-field-requires
-read-field-requires c κs = search needs
-
 read-field-requires-2 : tie.Need-read-field-requires-2
 read-field-requires-2 c κs = omega (arith, at-quads c, c .before .before .before .before .before .pre)
 
@@ -117,7 +114,7 @@ pub read-cell-counts-spec : {M : Type 1} → statement M
 read-cell-counts-spec =
     tie.close
     (tie.spec
-    read-field-requires
+    (λ c κs. search needs)
     (λ c. search needs)
     (λ c. search needs)
     (λ c κs. search needs)

@@ -2,19 +2,34 @@
 use borrow.Author.Needs.{needs}
 use mathlib.Core.Path.{_≡_, sym, ap, _∙_}
 use native.Mathlib.Omega.{arith}
-use Rattle.stored.specs.Fields.{handOn}
+use Rattle.stored.specs.Fields.{fieldUnder, handOn, formRule, widthRule, vertexRule}
 use Rattle.stored.proofs.FieldReads.{field-kept}
 use Rattle.stored.proofs.HeaderChecks.{header-read, some-vertices}
 use Rattle.stored.proofs.header.read_header.Statement.{statement}
 use Rattle.stored.proofs.header.read_header.Tie as tie
 
+-- ---- the reads, by their rules
+
+form-read : (c : tie.After-read-field) → c .read-field .result ≡ fieldUnder (c .before .before .args .s .now) 0 formRule
+form-read c = c .read-field .ensures
+
+width-read : (c : tie.After-read-field2)
+    → let f0 = c .before .before in
+    c .read-field2 .result ≡ fieldUnder (f0 .before .before .before .before .args .s .now) (f0 .f0 .given .0 .1 .0 .at) widthRule
+width-read c = c .read-field2 .ensures
+
+vertices-read : (c : tie.After-read-field3)
+    → let f1 = c .before .before in
+    c .read-field3 .result ≡ fieldUnder (f1 .before .before .before .before .before .before .before .before .args .s .now) (f1 .f1 .given .0 .1 .0 .at) vertexRule
+vertices-read c = c .read-field3 .ensures
+
 -- where each read leaves the cursor
 at-width : (c : tie.After-known-told) → c .before .f0 .given .0 .1 .0 .at ≡ 4
-at-width c = field-kept (sym (c .before .before .before .read-field .ensures) ∙ c .before .f0 .given .1) .next
+at-width c = field-kept (sym (form-read (c .before .before .before)) ∙ c .before .f0 .given .1) .next
 
 at-vertices : (c : tie.After-known-told2) → c .before .f1 .given .0 .1 .0 .at ≡ 9
 at-vertices c =
-    field-kept (sym (c .before .before .before .read-field2 .ensures) ∙ c .before .f1 .given .1) .next
+    field-kept (sym (width-read (c .before .before .before)) ∙ c .before .f1 .given .1) .next
     ∙ omega (arith, at-width (c .before .before .before .before))
 
 read-field-requires-2 : tie.Need-read-field-requires-2
@@ -25,7 +40,7 @@ read-field-requires-3 c κs = omega (arith, at-vertices c, c .before .before .be
 
 read-cell-counts-requires : tie.Need-read-cell-counts-requires
 read-cell-counts-requires c κs =
-    let kept = field-kept (sym (c .before .before .before .read-field3 .ensures) ∙ c .before .f2 .given .1) in
+    let kept = field-kept (sym (vertices-read (c .before .before .before)) ∙ c .before .f2 .given .1) in
     let start = c .before .before .before .before .before .before .before .before .before .before .before .before .before in
     (omega (arith, kept .next, at-vertices (c .before .before .before .before)), start .pre, some-vertices kept)
 
@@ -35,7 +50,7 @@ returns c =
     let told = c .before .enum-told .given .1 in
     let r0 = c .before .before .before in
     let s = r0 .before .before .args .s .now in
-    c .hand-on .ensures ∙ ap handOn told ∙ sym (rw (sym (r0 .read-field .ensures) ∙ told)) ∙ header-read s
+    c .hand-on .ensures ∙ ap handOn told ∙ sym (rw (sym (form-read r0) ∙ told)) ∙ header-read s
 
 returns-2 : tie.Need-returns-2
 unfolding handOn
@@ -46,7 +61,7 @@ returns-2 c =
     let r0 = f0 .before .before in
     let s = r0 .before .before .args .s .now in
     c .hand-on2 .ensures ∙ ap handOn told
-    ∙ sym (rw (sym (r0 .read-field .ensures) ∙ f0 .f0 .given .1, sym (r1 .read-field2 .ensures) ∙ told)) ∙ header-read s
+    ∙ sym (rw (sym (form-read r0) ∙ f0 .f0 .given .1, sym (width-read r1) ∙ told)) ∙ header-read s
 
 returns-3 : tie.Need-returns-3
 unfolding handOn
@@ -59,7 +74,7 @@ returns-3 c =
     let r0 = f0 .before .before in
     let s = r0 .before .before .args .s .now in
     c .hand-on3 .ensures ∙ ap handOn told
-    ∙ sym (rw (sym (r0 .read-field .ensures) ∙ f0 .f0 .given .1, sym (r1 .read-field2 .ensures) ∙ f1 .f1 .given .1, sym (r2 .read-field3 .ensures) ∙ told)) ∙ header-read s
+    ∙ sym (rw (sym (form-read r0) ∙ f0 .f0 .given .1, sym (width-read r1) ∙ f1 .f1 .given .1, sym (vertices-read r2) ∙ told)) ∙ header-read s
 
 returns-4 : tie.Need-returns-4
 returns-4 c =
@@ -71,7 +86,7 @@ returns-4 c =
     let r0 = f0 .before .before in
     let s = r0 .before .before .args .s .now in
     c .read-cell-counts .ensures
-    ∙ sym (rw (sym (r0 .read-field .ensures) ∙ f0 .f0 .given .1, sym (r1 .read-field2 .ensures) ∙ f1 .f1 .given .1, sym (r2 .read-field3 .ensures) ∙ f2 .f2 .given .1)) ∙ header-read s
+    ∙ sym (rw (sym (form-read r0) ∙ f0 .f0 .given .1, sym (width-read r1) ∙ f1 .f1 .given .1, sym (vertices-read r2) ∙ f2 .f2 .given .1)) ∙ header-read s
 
 pub read-header-spec : {M : Type 1} → statement M
 read-header-spec =

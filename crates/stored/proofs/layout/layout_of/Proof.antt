@@ -15,7 +15,7 @@ unfolding indexWidth
 bounds c = let start = c .before .before in small (c .index-width .result) (start .args .c) (start .pre) (c .index-width .ensures)
 
 sub-index-width : tie.Need-sub-index-width
-sub-index-width c = in-range (c .before .args .c) (c .before .pre) .some
+sub-index-width c = omega (arith, in-range (c .before .args .c) (c .before .pre) .some)
 
 mul-quads-2 : tie.Need-mul-quads-2
 mul-quads-2 c = omega (arith, bounds (c .before .before))

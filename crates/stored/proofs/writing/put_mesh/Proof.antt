@@ -9,10 +9,11 @@ use lib.ListN.{length, getD}
 use Rattle.rules.specs.Mesh.{Mesh, mesh}
 use Rattle.rules.specs.Counts.{countsOf, outOfRange}
 use Rattle.rules.specs.StoredForm.{Header, formNumber, headerFields, indexWidth}
+use Rattle.checks.proofs.Passed.{TablesPass, tables-pass}
 use Rattle.bits.specs.Writing.{putAll}
 use Rattle.stored.specs.Form.{headerFor}
 use Rattle.stored.proofs.Form.{tablesUnder}
-use Rattle.stored.proofs.Acceptance.{Writable, writable}
+use Rattle.stored.proofs.Acceptance.{pass-range}
 use Rattle.stored.proofs.Bounds.{Small, small}
 use Rattle.stored.proofs.Inverse.{fits}
 use Rattle.stored.proofs.Storing.{mesh-put, mesh-written, bitsOf, put-room}
@@ -27,11 +28,11 @@ whole c = let a = c .args in mesh (a .xs .now) (a .hexes .now) (a .quads .now) (
 width-is : (c : tie.Start) → c .args .width ≡ indexWidth (countsOf (whole c))
 width-is c = c .pre .2 ∙ ap indexWidth (c .pre .1)
 
-accepted : (c : tie.Start) → Writable (whole c)
-accepted c = writable (whole c) 0 (c .pre .0) .0
+accepted : (c : tie.Start) → TablesPass (whole c)
+accepted c = tables-pass (whole c) (c .pre .0)
 
 bounds : (c : tie.Start) → Small (c .args .width) (c .args .c)
-bounds c = small (c .args .width) (c .args .c) (ap outOfRange (c .pre .1) ∙ accepted c .range) (c .pre .2)
+bounds c = small (c .args .width) (c .args .c) (ap outOfRange (c .pre .1) ∙ pass-range (whole c) (accepted c)) (c .pre .2)
 
 abbrev Below : ℕ → List ℕ → Type 0
 Below w t = (i : ℕ) → getD t i 0 < 2 ^ w
