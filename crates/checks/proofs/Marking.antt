@@ -20,33 +20,30 @@ use Rattle.checks.specs.Marked.{Marked}
 pub corner-below : (n : ℕ) (table : List ℕ) → any (leb n) table ≡ false → (i : ℕ) → i < length table → getD table i 0 < n
 corner-below n table h i l = leb-false n (getD table i 0) (none-at (leb n) table 0 h i l)
 
-pub mark-start : (w table : List ℕ) → Marked w w (take 0 table)
+pub mark-start : (x : ℕ) (w table : List ℕ) → Marked x w w (take 0 table)
 unfolding has any
-mark-start w table = record { kept = refl; at = λ v l. refl }
+mark-start x w table = record { kept = refl; at = λ v l. refl }
 
-pub mark-turn : {old new : List ℕ} (table : List ℕ) (i : ℕ) → Marked old new (take i table) → i < length table → getD table i 0 < length old → Marked old (set new (getD table i 0) 1) (take (i + 1) table)
+pub mark-turn : {x : ℕ} {old new : List ℕ} (table : List ℕ) (i : ℕ) → Marked x old new (take i table) → i < length table → getD table i 0 < length old → Marked x old (set new (getD table i 0) x) (take (i + 1) table)
 unfolding has
-mark-turn {old} {new} table i m h l = record { kept = length-set new (getD table i 0) 1 ∙ m .kept; at = at }
+mark-turn {x} {old} {new} table i m h l = record { kept = length-set new (getD table i 0) x ∙ m .kept; at = at }
   where
-    x : ℕ
-    x = getD table i 0
-
     more : (v : ℕ) → any (eqb v) (take (i + 1) table) ≡ (any (eqb v) (take i table) || eqb v (getD table i 0))
     more v = rw (add-one i) (any-turn (eqb v) table i 0 h)
 
-    at : (v : ℕ) → v < length old → getD (set new (getD table i 0) 1) v 0 ≡ cond (any (eqb v) (take (i + 1) table)) 1 (getD old v 0)
+    at : (v : ℕ) → v < length old → getD (set new (getD table i 0) x) v 0 ≡ cond (any (eqb v) (take (i + 1) table)) x (getD old v 0)
     at v k = go (eqb v (getD table i 0)) refl
       where
-        go : (t : Bool) → eqb v (getD table i 0) ≡ t → getD (set new (getD table i 0) 1) v 0 ≡ cond (any (eqb v) (take (i + 1) table)) 1 (getD old v 0)
+        go : (t : Bool) → eqb v (getD table i 0) ≡ t → getD (set new (getD table i 0) x) v 0 ≡ cond (any (eqb v) (take (i + 1) table)) x (getD old v 0)
         go true e =
             let p = eqb-true v (getD table i 0) e in
-            rw (more v, e, or-true (any (eqb v) (take i table)), p) (getD-set-same new (getD table i 0) 1 0 (rw (m .kept) l))
+            rw (more v, e, or-true (any (eqb v) (take i table)), p) (getD-set-same new (getD table i 0) x 0 (rw (m .kept) l))
         go false e =
             rw (more v, e, or-false (any (eqb v) (take i table)))
-            (getD-set-other new (getD table i 0) v 1 0 (λ p. eqb-false v (getD table i 0) e p) ∙ m .at v k)
+            (getD-set-other new (getD table i 0) v x 0 (λ p. eqb-false v (getD table i 0) e p) ∙ m .at v k)
 
-pub mark-end : {old new : List ℕ} (table : List ℕ) (i : ℕ) → Marked old new (take i table) → length table ≤ i → Marked old new table
-mark-end {old} {new} table i m h = subst (Marked old new) (take-all i table h) m
+pub mark-end : {x : ℕ} {old new : List ℕ} (table : List ℕ) (i : ℕ) → Marked x old new (take i table) → length table ≤ i → Marked x old new table
+mark-end {x} {old} {new} table i m h = subst (Marked x old new) (take-all i table h) m
 
 -- ---- four tables, one after the other
 
@@ -62,7 +59,7 @@ unmarked a true false false = rw (or-true a)
 unmarked true false false false = refl
 unmarked false false false false = refl
 
-module _ (n : ℕ) {w₀ w₁ w₂ w₃ w₄ hs qs ss ps : List ℕ} (start : w₀ ≡ replicate n 0) (m₁ : Marked w₀ w₁ hs) (m₂ : Marked w₁ w₂ qs) (m₃ : Marked w₂ w₃ ss) (m₄ : Marked w₃ w₄ ps) where
+module _ (n : ℕ) {w₀ w₁ w₂ w₃ w₄ hs qs ss ps : List ℕ} (start : w₀ ≡ replicate n 0) (m₁ : Marked 1 w₀ w₁ hs) (m₂ : Marked 1 w₁ w₂ qs) (m₃ : Marked 1 w₂ w₃ ss) (m₄ : Marked 1 w₃ w₄ ps) where
   pub marks-kept : (length w₀ ≡ n) × (length w₁ ≡ n) × (length w₂ ≡ n) × (length w₃ ≡ n) × (length w₄ ≡ n)
   marks-kept =
       let k₀ : length w₀ ≡ n = ap length start ∙ length-replicate n 0 in

@@ -49,9 +49,26 @@ tables-refuse m h =
     go false false false true later h = refl
     go false false false false later h = absurd (h refl)
 
-pub vertices-few : (m : Mesh) → countOutOfRange m ≡ false → length (m .vertices) / 3 ≤ 1_000_000
+-- "There are 1 to 1,000,000 vertices and at most 250,000 entries in each cell table."
+pub record Few (m : Mesh) : Type 0 where
+  pub vertices : length (m .vertices) / 3 ≤ 1_000_000
+  pub hexes : length (m .hexes) / 8 ≤ 250_000
+  pub quads : length (m .quads) / 4 ≤ 250_000
+  pub segments : length (m .segments) / 2 ≤ 250_000
+  pub points : length (m .points) / 1 ≤ 250_000
+
+pub counts-few : (m : Mesh) → countOutOfRange m ≡ false → Few m
 unfolding countOutOfRange outOfRange countsOf
-vertices-few m h =
+counts-few m h =
     let a = or-neither (eqb (length (m .vertices) / 3) 0) _ h in
     let b = or-neither (ltb 1_000_000 (length (m .vertices) / 3)) _ (a .1) in
-    ltb-false 1_000_000 (length (m .vertices) / 3) (b .0)
+    let c = or-neither (ltb 250_000 (length (m .hexes) / 8)) _ (b .1) in
+    let d = or-neither (ltb 250_000 (length (m .quads) / 4)) _ (c .1) in
+    let e = or-neither (ltb 250_000 (length (m .segments) / 2)) _ (d .1) in
+    record {
+      vertices = ltb-false 1_000_000 (length (m .vertices) / 3) (b .0);
+      hexes = ltb-false 250_000 (length (m .hexes) / 8) (c .0);
+      quads = ltb-false 250_000 (length (m .quads) / 4) (d .0);
+      segments = ltb-false 250_000 (length (m .segments) / 2) (e .0);
+      points = ltb-false 250_000 (length (m .points) / 1) (e .1);
+    }

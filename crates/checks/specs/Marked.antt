@@ -6,7 +6,7 @@ use Prim.Native.Nat.{ℕ, _<_}
 use lib.ListN.{length, getD}
 use Rattle.rules.specs.Lists.{has}
 
--- each corner is marked by 1, and all else is as it was
-pub record Marked (old new table : List ℕ) : Type 0 where
+-- each corner is marked by x, and all else is as it was
+pub record Marked (x : ℕ) (old new table : List ℕ) : Type 0 where
   pub kept : length new ≡ length old
-  pub at : (v : ℕ) → v < length old → getD new v 0 ≡ cond (has v table) 1 (getD old v 0)
+  pub at : (v : ℕ) → v < length old → getD new v 0 ≡ cond (has v table) x (getD old v 0)

@@ -8,15 +8,15 @@ ghost use Rattle.rules.specs.Lists.{any, upFrom};
 ghost use Rattle.checks.specs.Held.{isolatedIn};
 ghost use Rattle.checks.specs.Marked.{Marked};
 
-// Marks each corner of a table.
-fn mark(w: &mut [u32], table: &[u32])
+// Marks each corner of a table by x.
+pub fn mark(w: &mut [u32], x: u32, table: &[u32])
     requires { ⌜ any (leb (length (now w))) (now table) ≡ false ⌝ }
-    ensures { λ _. ⌜ Marked (now (w .entry)) (now (w .exit)) (now (table .entry)) ⌝ }
+    ensures { λ _. ⌜ Marked x (now (w .entry)) (now (w .exit)) (now (table .entry)) ⌝ }
 {
     let mut i = 0;
     while i < table.len() {
         let v = table[i] as usize;
-        w[v] = 1;
+        w[v] = x;
         i += 1;
     }
 }
@@ -50,9 +50,9 @@ pub fn has_isolated_vertex(
         (upFrom 0 (length (now (w .entry)))) ⌝ }
 {
     memory::clear_u32(w);
-    mark(w, hexes);
-    mark(w, quads);
-    mark(w, segments);
-    mark(w, points);
+    mark(w, 1, hexes);
+    mark(w, 1, quads);
+    mark(w, 1, segments);
+    mark(w, 1, points);
     has_zero(w)
 }

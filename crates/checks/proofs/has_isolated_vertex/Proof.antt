@@ -7,7 +7,7 @@ use lib.ListN.{length, take}
 use lib.Seq.{length-take-le}
 use Rattle.rules.specs.Mesh.{Mesh, hex, quad, segment, point, mesh}
 use Rattle.checks.proofs.ByKind.{no-corners, isolated-tables}
-use Rattle.checks.proofs.Passed.{vertices-few}
+use Rattle.checks.proofs.Passed.{counts-few}
 use Rattle.checks.proofs.has_isolated_vertex.Statement.{statement}
 use Rattle.checks.proofs.has_isolated_vertex.Tie as tie
 
@@ -44,6 +44,6 @@ has-isolated-vertex-spec =
     has-isolated-vertex-requires
     (λ c. search needs)
     returns
-    (λ c. let s = c .before .before .before .before .before .before in omega (arith, vertices-few (meshOf s) (s .pre .1 .0)))
+    (λ c. let s = c .before .before .before .before .before .before in omega (arith, counts-few (meshOf s) (s .pre .1 .0) .vertices))
     (λ c κs. search needs)
     returns-2)

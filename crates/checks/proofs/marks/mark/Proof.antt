@@ -8,10 +8,10 @@ use Rattle.checks.proofs.marks.mark.Statement.{statement}
 use Rattle.checks.proofs.marks.mark.Tie as tie
 
 abbrev Inv-loop : tie.InvT-loop
-Inv-loop w₀ table i₀ w i = Marked w₀ w (take i table)
+Inv-loop w₀ x table i₀ w i = Marked x w₀ w (take i table)
 
 abbrev μ-loop : tie.MeasureT-loop
-μ-loop w₀ table i₀ w i = length table - i
+μ-loop w₀ x table i₀ w i = length table - i
 
 -- the corner that is marked is below the count
 below : (l : tie.In-loop Inv-loop μ-loop) → let s = l .before .before in getD (s .args .table .now) (l .before .loop .i) 0 < length (s .args .w .now)
@@ -26,7 +26,7 @@ mark-spec =
     (tie.spec
     Inv-loop
     μ-loop
-    (λ c. mark-start (c .args .w .now) (c .args .table .now))
+    (λ c. mark-start (c .args .x) (c .args .w .now) (c .args .table .now))
     (λ c. omega arith)
     (λ c. omega arith)
     (λ c. omega (arith, c .shared-slice-known .given (c .before .before .loop .i)))

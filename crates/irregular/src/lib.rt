@@ -1,0 +1,57 @@
+// The irregular count: how many vertices of a mesh have a valence other than 2 to the power of the rank.
+//
+// Rests on `checks` for the refusals 1 to 8. Promises the whole answer for each mesh and leaves the lent numbers all zero. The answer
+// never depends on how many there are. With `max(2 V, N)` of them the call is near-linear, for V vertices and the N numbers that make
+// the checks near-linear (see `checks`); with fewer than 2 V each vertex is looked for in all tables.
+use rules::CountAnswer;
+ghost use mathlib.Core.Path.{_≡_};
+ghost use lib.ListN.{length};
+ghost use Rattle.rules.specs.Mesh.{mesh, topology};
+ghost use Rattle.rules.specs.Refusals.{meshChecks};
+ghost use Rattle.rules.specs.EntryPoints.{cleared, irregularCount, irregularAnswer};
+
+// Vertex by vertex, with no memory.
+mod single;
+// With two lent numbers a vertex.
+mod tallies;
+
+// The count, of a mesh that passes the checks.
+fn count(
+    xs: &[i32],
+    hexes: &[u32],
+    quads: &[u32],
+    segments: &[u32],
+    points: &[u32],
+    words: &mut [u32],
+) -> u64
+    requires { ⌜ meshChecks (mesh (now xs) (now hexes) (now quads) (now segments) (now points)) 0 ≡ 0 ⌝ }
+    ensures { λ r. ⌜ r ≡ irregularCount (topology (mesh (now (xs .entry)) (now (hexes .entry)) (now (quads .entry)) (now (segments .entry)) (now (points .entry)))) ⌝ }
+{
+    let n = xs.len() / 3;
+    if 2 * n <= words.len() {
+        return tallies::count(words, n, hexes, quads, segments, points);
+    }
+    single::count(n as u32, hexes, quads, segments, points)
+}
+
+// How many vertices are irregular.
+pub fn irregular_count(
+    xs: &[i32],
+    hexes: &[u32],
+    quads: &[u32],
+    segments: &[u32],
+    points: &[u32],
+    words: &mut [u32],
+) -> CountAnswer
+    ensures { λ r. ⌜ r ≡ irregularAnswer (mesh (now (xs .entry)) (now (hexes .entry)) (now (quads .entry)) (now (segments .entry)) (now (points .entry))) ⌝ }
+    ensures { λ _. ⌜ now (words .exit) ≡ cleared (now (words .entry)) ⌝ }
+{
+    let refusal = checks::mesh_refusal(xs, hexes, quads, segments, points, words);
+    if refusal != 0 {
+        memory::clear_u32(words);
+        return CountAnswer { refusal, count: 0 };
+    }
+    let count = count(xs, hexes, quads, segments, points, words);
+    memory::clear_u32(words);
+    CountAnswer { refusal: 0, count }
+}
