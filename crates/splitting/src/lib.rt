@@ -71,15 +71,8 @@ pub fn split(
     };
     prepare_tables(words, base);
     let none = Known { edges: 0, faces: 0 };
-    let by_hexes = cells::split_cells(
-        words,
-        base,
-        none,
-        CellKind::Hex,
-        hexes,
-        vertices + (edges + faces),
-        out_hexes,
-    );
+    let own = vertices + (edges + faces);
+    let by_hexes = cells::split_cells(words, base, none, CellKind::Hex, hexes, own, out_hexes);
     let by_quads = cells::split_cells(words, base, by_hexes, CellKind::Quad, quads, 0, out_quads);
     cells::split_cells(
         words,
