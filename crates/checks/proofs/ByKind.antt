@@ -1,6 +1,6 @@
 -- The checks by table: what a test over all kinds of cells says of each table. Assumes nothing.
-use mathlib.Core.Path.{_≡_, refl, sym, ap, _∙_}
-use mathlib.Core.Bool.{Bool, true, false, not, _||_}
+use mathlib.Core.Path.{_≡_, refl, sym, _∙_}
+use mathlib.Core.Bool.{Bool, false, not, _||_}
 use mathlib.Core.List.{List, [], map}
 use Prim.Native.Nat.{ℕ, _/_, _%_}
 use native.Mathlib.Omega.{arith}
@@ -56,13 +56,19 @@ whole-tables m h κ =
     go point a b c = omega arith
 
 -- 4, by table
-pub corner-tables : (m : Mesh) → partialEntry m ≡ false → cornerOutOfRange (topology m) ≡ eachKind (λ (κ : Kind). any (leb (length (m .vertices) / 3)) (tableOf m κ))
+pub corner-tables : (m : Mesh) → partialEntry m ≡ false
+    → cornerOutOfRange (topology m) ≡ eachKind (λ (κ : Kind). any (leb (length (m .vertices) / 3)) (tableOf m κ))
 unfolding cornerOutOfRange topology
 corner-tables m h =
     let n = length (m .vertices) / 3 in
     let w = whole-tables m h in
     any-kinds (λ (κ : Kind). any (any (leb n)) (cellsOf (topology m) κ))
-    ∙ rw (any-cut (leb n) 8 (m .hexes) (w hex), any-cut (leb n) 4 (m .quads) (w quad), any-cut (leb n) 2 (m .segments) (w segment), any-cut (leb n) 1 (m .points) (w point))
+    ∙ rw (
+      any-cut (leb n) 8 (m .hexes) (w hex),
+      any-cut (leb n) 4 (m .quads) (w quad),
+      any-cut (leb n) 2 (m .segments) (w segment),
+      any-cut (leb n) 1 (m .points) (w point),
+    )
 
 -- 5, by table
 pub repeat-tables : (m : Mesh) → repeatedCorner (topology m) ≡ eachKind (λ (κ : Kind). any (repeats eqb) (cut (corners κ) (tableOf m κ)))
@@ -86,7 +92,8 @@ no-kind p h κ =
 pub no-repeats : (m : Mesh) → repeatedCorner (topology m) ≡ false → (κ : Kind) → any (repeats eqb) (cut (corners κ) (tableOf m κ)) ≡ false
 no-repeats m h κ = no-kind (λ (κ : Kind). any (repeats eqb) (cut (corners κ) (tableOf m κ))) (sym (repeat-tables m) ∙ h) κ
 
-pub no-corners : (m : Mesh) → partialEntry m ≡ false → cornerOutOfRange (topology m) ≡ false → (κ : Kind) → any (leb (length (m .vertices) / 3)) (tableOf m κ) ≡ false
+pub no-corners : (m : Mesh) → partialEntry m ≡ false → cornerOutOfRange (topology m) ≡ false → (κ : Kind)
+    → any (leb (length (m .vertices) / 3)) (tableOf m κ) ≡ false
 no-corners m w h κ = no-kind (λ (κ : Kind). any (leb (length (m .vertices) / 3)) (tableOf m κ)) (sym (corner-tables m w) ∙ h) κ
 
 -- 6, by table
@@ -95,7 +102,8 @@ unfolding duplicateCell topology
 duplicate-tables m = any-kinds (λ (κ : Kind). repeats same (map keyOf (cellsOf (topology m) κ)))
 
 -- 5 and 7 look at neither positions nor points, and 7 at no segment's faces
-pub fewer-tables : (m : Mesh) → repeatedCorner (topology m) ≡ false → repeatedCorner (topology (mesh [] (m .hexes) (m .quads) (m .segments) [])) ≡ false
+pub fewer-tables : (m : Mesh) → repeatedCorner (topology m) ≡ false
+    → repeatedCorner (topology (mesh [] (m .hexes) (m .quads) (m .segments) [])) ≡ false
 unfolding cut any entries
 fewer-tables m h =
     repeat-tables (mesh [] (m .hexes) (m .quads) (m .segments) [])
@@ -106,10 +114,17 @@ unfolding mismatchedFace
 mismatched-tables m = rw (met-mesh 2 (lit< tt) m)
 
 -- 8, by table
-pub isolated-tables : (m : Mesh) → partialEntry m ≡ false → isolatedVertex (topology m) ≡ any (isolatedIn (m .hexes) (m .quads) (m .segments) (m .points)) (upFrom 0 (length (m .vertices) / 3))
+pub isolated-tables : (m : Mesh) → partialEntry m ≡ false
+    → isolatedVertex (topology m) ≡ any (isolatedIn (m .hexes) (m .quads) (m .segments) (m .points)) (upFrom 0 (length (m .vertices) / 3))
 unfolding isolatedVertex topology has
 isolated-tables m h =
     any-same (λ (v : ℕ). not (any (λ (κ : Kind). any (has v) (cellsOf (topology m) κ)) kinds)) (isolatedIn (m .hexes) (m .quads) (m .segments) (m .points)) (upFrom 0 (length (m .vertices) / 3))
     (λ v i.
     let w = whole-tables m h in
-    rw (any-kinds (λ (κ : Kind). any (has v) (cellsOf (topology m) κ)), any-cut (eqb v) 8 (m .hexes) (w hex), any-cut (eqb v) 4 (m .quads) (w quad), any-cut (eqb v) 2 (m .segments) (w segment), any-cut (eqb v) 1 (m .points) (w point)))
+    rw (
+      any-kinds (λ (κ : Kind). any (has v) (cellsOf (topology m) κ)),
+      any-cut (eqb v) 8 (m .hexes) (w hex),
+      any-cut (eqb v) 4 (m .quads) (w quad),
+      any-cut (eqb v) 2 (m .segments) (w segment),
+      any-cut (eqb v) 1 (m .points) (w point),
+    ))

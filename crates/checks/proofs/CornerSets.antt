@@ -3,7 +3,7 @@
 use mathlib.Core.Path.{_≡_, refl, sym, subst}
 use mathlib.Core.Bool.{Bool, true, false, not}
 use mathlib.Core.Logic.{inl, inr, ⊎-elim}
-use mathlib.Core.List.{List, [], _∷_}
+use mathlib.Core.List.{List, _∷_}
 use Prim.Native.Nat.{ℕ}
 use native.Mathlib.Omega.{arith}
 use lib.Dec.{eqb}
@@ -30,7 +30,8 @@ onto xs ys o e s y i = ⊎-elim (λ (h : has y xs ≡ true). has-in y xs h) (λ 
 abbrev pub strange : List ℕ → ℕ → Bool
 strange b x = not (has x b)
 
-pub same-by-corners : (a b : List ℕ) → length a ≡ length b → repeats eqb a ≡ false → repeats eqb b ≡ false → same (keyOf a) (keyOf b) ≡ not (any (strange b) a)
+pub same-by-corners : (a b : List ℕ) → length a ≡ length b → repeats eqb a ≡ false → repeats eqb b ≡ false
+    → same (keyOf a) (keyOf b) ≡ not (any (strange b) a)
 same-by-corners a b e p q = go (any (strange b) a) refl
   where
     go : (t : Bool) → any (strange b) a ≡ t → same (keyOf a) (keyOf b) ≡ not t

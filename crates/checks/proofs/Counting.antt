@@ -2,7 +2,7 @@
 use mathlib.Core.Path.{_≡_, refl, sym, ap, _∙_}
 use mathlib.Core.Bool.{true, false}
 use mathlib.Core.List.{List, [], _∷_, _++_}
-use Prim.Native.Nat.{ℕ, suc, _+_, _<_, _≤_}
+use Prim.Native.Nat.{ℕ, _+_, _<_, _≤_}
 use native.Mathlib.Numerals.{add-one}
 use native.Mathlib.Omega.{arith}
 use lib.ListN.{length, take, getD, length-append}
@@ -31,12 +31,14 @@ module _ {ks : List Key} {i count : ℕ} (at : Counting ks i count) (h : i < len
   count-known e = record {
     below = omega arith;
     few = omega (arith, at .few);
-    is = at .is ∙ ap length (sym (next ∙ distinct-turn (take i ks) (getD ks i []) ∙ meet-known (getD ks i []) (distinct (take i ks)) (distinct-in (take i ks) (getD ks i []) (any-key (getD ks i []) (take i ks) e))));
+    is = at .is ∙ ap length (sym (next ∙ distinct-turn (take i ks) (getD ks i [])
+        ∙ meet-known (getD ks i []) (distinct (take i ks)) (distinct-in (take i ks) (getD ks i []) (any-key (getD ks i []) (take i ks) e))));
   }
 
   pub count-new : any (same (getD ks i [])) (take i ks) ≡ false → Counting ks (i + 1) (count + 1)
   count-new e =
-      let absent : In (getD ks i []) (distinct (take i ks)) → ⊥ = λ j. false≢true (sym e ∙ key-any (getD ks i []) (take i ks) (in-distinct (take i ks) (getD ks i []) j)) in
+      let absent : In (getD ks i []) (distinct (take i ks))
+      → ⊥ = λ j. false≢true (sym e ∙ key-any (getD ks i []) (take i ks) (in-distinct (take i ks) (getD ks i []) j)) in
       record {
         below = omega arith;
         few = omega (arith, at .few);

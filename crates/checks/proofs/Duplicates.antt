@@ -3,7 +3,7 @@ use mathlib.Core.Path.{_≡_, refl, sym, ap, _∙_, subst}
 use mathlib.Core.Bool.{Bool, true, false, not, _||_}
 use mathlib.Core.Logic.{inl, inr, ⊎-elim}
 use mathlib.Core.List.{List, [], _∷_, _++_, map, map-append, map-map, append-nil}
-use Prim.Native.Nat.{ℕ, zero, suc, _<_, _≤_}
+use Prim.Native.Nat.{ℕ, suc, _<_, _≤_}
 use native.Mathlib.Omega.{arith}
 use lib.Dec.{eqb, lit<}
 use lib.ListN.{length}
@@ -109,7 +109,8 @@ edge-keys hs qs ss =
     let Q = partsOf quad 1 qs in
     let S = partsOf segment 1 ss in
     rw (part-keys HexEdges hs, part-keys QuadEdges qs, part-keys Segments ss)
-    (sym (ap (map keyOf) (met-is 1 (lit< tt) hs qs ss) ∙ map-append keyOf H (Q ++ S) ∙ ap (λ (l : List Key). map keyOf H ++ l) (map-append keyOf Q S)))
+    (sym (ap (map keyOf) (met-is 1 (lit< tt) hs qs ss) ∙ map-append keyOf H (Q ++ S)
+    ∙ ap (λ (l : List Key). map keyOf H ++ l) (map-append keyOf Q S)))
 
 module _ {A : Type 0} where
   empty : (xs : List A) → length xs ≡ 0 → xs ≡ []

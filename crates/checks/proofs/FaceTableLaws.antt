@@ -1,20 +1,19 @@
 -- The table of faces: how it starts, and what meeting a face makes of it. Assumes nothing.
-use mathlib.Core.Path.{_≡_, refl, sym, ap, _∙_, subst}
-use mathlib.Core.Logic.{inl, inr, ⊎-elim}
+use mathlib.Core.Path.{_≡_, sym, ap, _∙_}
+use mathlib.Core.Logic.{⊎-elim}
 use mathlib.Core.Bool.{true, false}
-use mathlib.Core.List.{List, [], _∷_, _++_, map}
-use Prim.Native.Nat.{ℕ, zero, suc, _+_, _*_, _^_, _<_, _≤_}
-use native.Mathlib.Nat.{add-zero}
+use mathlib.Core.List.{List, [], _∷_, _++_}
+use Prim.Native.Nat.{ℕ, _+_, _^_, _<_, _≤_}
 use native.Mathlib.Omega.{arith}
 use lib.ListN.{length, take, drop, getD, set, replicate, length-append, length-replicate, length-set, length-drop, getD-replicate, List·getD-append}
 use lib.Seq.{take-at, take-set-le, getD-append-add, getD-drop, getD-set-same, getD-set-other, length-take-le}
-use Rattle.rules.specs.Lists.{any, Key, keyOf, same, indexOf, meet, distinct, overwritten}
+use Rattle.rules.specs.Lists.{any, Key, keyOf, same, indexOf, meet, overwritten}
 use Rattle.lists.specs.Membership.{In}
 use Rattle.lists.proofs.Tests.{false≢true, either}
 use Rattle.lists.proofs.Keys.{same-refl, any-key, key-any}
 use Rattle.lists.proofs.Distinct.{index-right, meet-known, meet-absent}
 use Rattle.soundness.specs.Across.{across}
-use Rattle.numbering.specs.Table.{wordsFor, keys, Table, Met}
+use Rattle.numbering.specs.Table.{wordsFor, keys, Met}
 use Rattle.numbering.proofs.Entries.{table-empty, length-keys}
 use Rattle.checks.specs.FaceTable.{front, beside, Faces, Agreed, Differed}
 
@@ -42,7 +41,8 @@ length-zeros : (n : ℕ) → length (zeros n) ≡ n
 unfolding zeros
 length-zeros n = length-replicate n 0
 
-pub faces-start : (room : ℕ) (w ys : List ℕ) → wordsFor 4 room + room ≤ length w → room + 1 < 2 ^ 32 → ys ≡ overwritten (take (wordsFor 4 room) w) (replicate (room + 1) 0)
+pub faces-start : (room : ℕ) (w ys : List ℕ) → wordsFor 4 room + room ≤ length w → room + 1 < 2 ^ 32
+    → ys ≡ overwritten (take (wordsFor 4 room) w) (replicate (room + 1) 0)
     → Faces (ys ++ drop (wordsFor 4 room) w) room 0
 unfolding overwritten zeros
 faces-start room w ys h f e =
@@ -50,13 +50,15 @@ faces-start room w ys h f e =
     let z = zeros (room + 1) in
     let fl : length (take size w) ≡ size = length-take-le size w (omega arith) in
     let rest = drop (length z) (take size w) in
-    let l : length ys ≡ size = ap length e ∙ length-append z rest ∙ omega (arith, fl, length-zeros (room + 1), length-drop (length z) (take size w)) in
+    let l : length ys ≡ size = ap length e ∙ length-append z rest
+    ∙ omega (arith, fl, length-zeros (room + 1), length-drop (length z) (take size w)) in
     record {
       fits = rw (whole-length size w ys l (omega arith)) h;
       table =
           rw (front-is size w ys l)
           (table-empty 4 ys room (omega (arith, l)) f
-          (λ s k. ap (λ (v : List ℕ). getD v s 0) e ∙ List·getD-append z rest 0 s (omega (arith, length-zeros (room + 1))) ∙ getD-replicate (room + 1) s 0 0 k));
+          (λ s k. ap (λ (v : List ℕ). getD v s 0) e ∙ List·getD-append z rest 0 s (omega (arith, length-zeros (room + 1)))
+          ∙ getD-replicate (room + 1) s 0 0 k));
     }
 
 -- ---- a face is met
@@ -109,7 +111,8 @@ module _ {w ys : List ℕ} {room n number count : ℕ} (f : List ℕ) (faces : F
   pub agreed-new : (x : ℕ) → x ≡ across f → n < count → Agreed w (set after (wordsFor 4 room + number) x) room n count f
   agreed-new x e h =
       let size = wordsFor 4 room in
-      let same-front : front room (set after (size + number) x) ≡ ys = take-set-le size after (size + number) x (omega arith) ∙ front-is size w ys l in
+      let same-front : front room (set after (size + number) x) ≡ ys = take-set-le size after (size + number) x (omega arith)
+      ∙ front-is size w ys l in
       record {
         faces = record {
           fits = rw (length-set after (size + number) x, whole-length size w ys l size-le) (faces .fits);
@@ -139,5 +142,6 @@ module _ {w ys : List ℕ} {room n number count : ℕ} (f : List ℕ) (faces : F
   pub differed : count ≤ n → (getD after (wordsFor 4 room + number) 0 ≡ across f → ⊥) → Differed w room n f
   differed h no-match = record {
     known = known h;
-    other = λ q. no-match (behind-is (wordsFor 4 room) w ys l number ∙ ap (λ (e : ℕ). beside room w e) (met .number-is ∙ ap (indexOf (keyOf f)) (kept h)) ∙ q);
+    other = λ q. no-match (behind-is (wordsFor 4 room) w ys l number
+        ∙ ap (λ (e : ℕ). beside room w e) (met .number-is ∙ ap (indexOf (keyOf f)) (kept h)) ∙ q);
   }

@@ -1,6 +1,6 @@
 -- The faces of a mesh, met one after the other in a table: they agree so far, or one differs, or all agree. Assumes nothing.
-use mathlib.Core.Path.{_≡_, refl, sym, ap, _∙_, subst}
-use mathlib.Core.Bool.{Bool, true, false, not, _&&_}
+use mathlib.Core.Path.{_≡_, refl, sym, ap, _∙_}
+use mathlib.Core.Bool.{true, false, not}
 use mathlib.Core.Logic.{_⊎_, inl, inr, ⊎-elim}
 use mathlib.Core.List.{List, [], _∷_, _++_, map, map-append}
 use Prim.Native.Nat.{ℕ, zero, suc, _+_, _<_, _≤_}
@@ -61,12 +61,18 @@ module _ {F : List (List ℕ)} {w : List ℕ} {room n i : ℕ} (at : FacesMet F 
         agree = λ f j. ⊎-elim (before a f) (λ (q : In f (getD F i [] ∷ [])). ⊎-elim (λ (p : f ≡ getD F i []). rw (p, ← e) (a .own)) absurd q) (in-append f (take i F) (getD F i [] ∷ []) (rw (next F i h) at j));
       }
     where
-      before : Agreed w w′ room n count (getD F i []) → (f : List ℕ) → In f (take i F) → beside room w′ (indexOf (keyOf f) (distinct (keysTo F (i + 1)))) ≡ across f
+      before : Agreed w w′ room n count (getD F i []) → (f : List ℕ) → In f (take i F)
+          → beside room w′ (indexOf (keyOf f) (distinct (keysTo F (i + 1)))) ≡ across f
       before a f j =
           let d = distinct-in (keysTo F i) (keyOf f) (map-in keyOf (take i F) f j) in
           let stays : indexOf (keyOf f) (distinct (keysTo F (i + 1))) ≡ indexOf (keyOf f) (distinct (keysTo F i)) =
           ap (λ (l : List Key). indexOf (keyOf f) (distinct l)) (next-keys F i h) ∙ index-stays (keysTo F i) (keyOf (getD F i []) ∷ []) (keyOf f) d in
-          let small : indexOf (keyOf f) (distinct (keysTo F i)) < n = omega (arith, index-below (keyOf f) (distinct (keysTo F i)) d, ap length (at .keys-are), length-keys 4 (front room w) room n) in
+          let small : indexOf (keyOf f) (distinct (keysTo F i)) < n = omega (
+            arith,
+            index-below (keyOf f) (distinct (keysTo F i)) d,
+            ap length (at .keys-are),
+            length-keys 4 (front room w) room n,
+          ) in
           rw stays (a .others (indexOf (keyOf f) (distinct (keysTo F i))) small ∙ at .agree f j)
 
 take-in : (F : List (List ℕ)) (i : ℕ) (f : List ℕ) → In f (take i F) → In f F

@@ -1,8 +1,8 @@
 -- Marking the corners of tables: a loop's turn, and what the marks of all tables say. Assumes nothing.
 use mathlib.Core.Path.{_≡_, refl, sym, ap, _∙_, subst}
 use mathlib.Core.Bool.{Bool, true, false, not, cond, _||_}
-use mathlib.Core.List.{List, [], _∷_}
-use Prim.Native.Nat.{ℕ, suc, _+_, _<_, _≤_}
+use mathlib.Core.List.{List}
+use Prim.Native.Nat.{ℕ, _+_, _<_, _≤_}
 use native.Mathlib.Numerals.{add-one}
 use native.Mathlib.Omega.{arith}
 use lib.Dec.{leb, eqb}
@@ -24,7 +24,8 @@ pub mark-start : (x : ℕ) (w table : List ℕ) → Marked x w w (take 0 table)
 unfolding has any
 mark-start x w table = record { kept = refl; at = λ v l. refl }
 
-pub mark-turn : {x : ℕ} {old new : List ℕ} (table : List ℕ) (i : ℕ) → Marked x old new (take i table) → i < length table → getD table i 0 < length old → Marked x old (set new (getD table i 0) x) (take (i + 1) table)
+pub mark-turn : {x : ℕ} {old new : List ℕ} (table : List ℕ) (i : ℕ) → Marked x old new (take i table) → i < length table
+    → getD table i 0 < length old → Marked x old (set new (getD table i 0) x) (take (i + 1) table)
 unfolding has
 mark-turn {x} {old} {new} table i m h l = record { kept = length-set new (getD table i 0) x ∙ m .kept; at = at }
   where
@@ -34,7 +35,8 @@ mark-turn {x} {old} {new} table i m h l = record { kept = length-set new (getD t
     at : (v : ℕ) → v < length old → getD (set new (getD table i 0) x) v 0 ≡ cond (any (eqb v) (take (i + 1) table)) x (getD old v 0)
     at v k = go (eqb v (getD table i 0)) refl
       where
-        go : (t : Bool) → eqb v (getD table i 0) ≡ t → getD (set new (getD table i 0) x) v 0 ≡ cond (any (eqb v) (take (i + 1) table)) x (getD old v 0)
+        go : (t : Bool) → eqb v (getD table i 0) ≡ t
+            → getD (set new (getD table i 0) x) v 0 ≡ cond (any (eqb v) (take (i + 1) table)) x (getD old v 0)
         go true e =
             let p = eqb-true v (getD table i 0) e in
             rw (more v, e, or-true (any (eqb v) (take i table)), p) (getD-set-same new (getD table i 0) x 0 (rw (m .kept) l))
@@ -77,4 +79,10 @@ module _ (n : ℕ) {w₀ w₁ w₂ w₃ w₄ hs qs ss ps : List ℕ} (start : w�
       (λ v i.
       let l : v < n = omega (arith, in-upFrom 0 n v i) in
       let zero : getD w₀ v 0 ≡ 0 = ap (λ (w : List ℕ). getD w v 0) start ∙ getD-replicate n v 0 0 l in
-      rw (m₄ .at v (rw (k .3) l), m₃ .at v (rw (k .2) l), m₂ .at v (rw (k .1) l), m₁ .at v (rw (k .0) l), zero) (unmarked (has v hs) (has v qs) (has v ss) (has v ps)))
+      rw (
+        m₄ .at v (rw (k .3) l),
+        m₃ .at v (rw (k .2) l),
+        m₂ .at v (rw (k .1) l),
+        m₁ .at v (rw (k .0) l),
+        zero,
+      ) (unmarked (has v hs) (has v qs) (has v ss) (has v ps)))

@@ -22,7 +22,8 @@ pub tables-pass : (m : Mesh) → tableChecks m 0 ≡ 0 → TablesPass m
 unfolding tableChecks
 tables-pass m h = go (partialEntry m) refl (countOutOfRange m) refl (coordinateOutOfRange m) refl (cornerOutOfRange (topology m)) refl h
   where
-    go : (a : Bool) → partialEntry m ≡ a → (b : Bool) → countOutOfRange m ≡ b → (c : Bool) → coordinateOutOfRange m ≡ c → (d : Bool) → cornerOutOfRange (topology m) ≡ d
+    go : (a : Bool) → partialEntry m ≡ a → (b : Bool) → countOutOfRange m ≡ b → (c : Bool) → coordinateOutOfRange m ≡ c → (d : Bool)
+        → cornerOutOfRange (topology m) ≡ d
         → check a 1 (check b 2 (check c 3 (check d 4 0))) ≡ 0 → TablesPass m
     go true p b q c r d s h = absurd (omega arith)
     go false p true q c r d s h = absurd (omega arith)
@@ -31,7 +32,8 @@ tables-pass m h = go (partialEntry m) refl (countOutOfRange m) refl (coordinateO
     go false p false q false r false s h = record { whole = p; counts = q; inside = r; known = s }
 
 -- then 5 to 8 decide
-pub cells-decide : (m : Mesh) → TablesPass m → (later : ℕ) → meshChecks m later ≡ check (repeatedCorner (topology m)) 5 (check (duplicateCell (topology m)) 6 (check (mismatchedFace (topology m)) 7 (check (isolatedVertex (topology m)) 8 later)))
+pub cells-decide : (m : Mesh) → TablesPass m → (later : ℕ)
+    → meshChecks m later ≡ check (repeatedCorner (topology m)) 5 (check (duplicateCell (topology m)) 6 (check (mismatchedFace (topology m)) 7 (check (isolatedVertex (topology m)) 8 later)))
 unfolding meshChecks tableChecks
 cells-decide m p later = rw (p .whole, p .counts, p .inside, p .known)
 
@@ -42,7 +44,8 @@ tables-refuse m h =
     go (partialEntry m) (countOutOfRange m) (coordinateOutOfRange m) (cornerOutOfRange (topology m))
     (check (repeatedCorner (topology m)) 5 (check (duplicateCell (topology m)) 6 (check (mismatchedFace (topology m)) 7 (check (isolatedVertex (topology m)) 8 0)))) h
   where
-    go : (a b c d : Bool) (later : ℕ) → (check a 1 (check b 2 (check c 3 (check d 4 0))) ≡ 0 → ⊥) → check a 1 (check b 2 (check c 3 (check d 4 0))) ≡ check a 1 (check b 2 (check c 3 (check d 4 later)))
+    go : (a b c d : Bool) (later : ℕ) → (check a 1 (check b 2 (check c 3 (check d 4 0))) ≡ 0 → ⊥)
+        → check a 1 (check b 2 (check c 3 (check d 4 0))) ≡ check a 1 (check b 2 (check c 3 (check d 4 later)))
     go true b c d later h = refl
     go false true c d later h = refl
     go false false true d later h = refl

@@ -1,8 +1,8 @@
 -- A loop that goes through a list and stops at the first element that passes a test. Assumes nothing.
-use mathlib.Core.Path.{_≡_, refl, sym, ap, _∙_}
+use mathlib.Core.Path.{_≡_, refl, sym, _∙_}
 use mathlib.Core.Bool.{Bool, true, false, _||_}
 use mathlib.Core.List.{List, [], _∷_}
-use Prim.Native.Nat.{ℕ, zero, suc, _+_, _<_, _≤_}
+use Prim.Native.Nat.{ℕ, _+_, _<_, _≤_}
 use native.Mathlib.Nat.{zero-add}
 use native.Mathlib.Numerals.{add-one}
 use native.Mathlib.Omega.{arith}
@@ -47,7 +47,8 @@ module _ {A : Type 0} where
     pub scan-miss : i < length l → p (getD l i z) (drop (i + 1) l) ≡ false → Scanning f r l (i + 1)
     scan-miss h e = record { below = omega arith; rest = rw (scan-turn h, e) }
 
-  pub scan-end : {f : List A → Bool} {p : A → List A → Bool} → Search f p → {r : Bool} {l : List A} {i : ℕ} → Scanning f r l i → length l ≤ i → false ≡ r
+  pub scan-end : {f : List A → Bool} {p : A → List A → Bool} → Search f p → {r : Bool} {l : List A} {i : ℕ} → Scanning f r l i
+      → length l ≤ i → false ≡ r
   scan-end s {r} {l} {i} at h = rw (at .rest, drop-of-length-le l {i = i} h) (sym (s .at-nil))
 
 -- ---- the numbers below n

@@ -1,5 +1,5 @@
 -- Parts of a slice that a call is lent, as lists: the rest of a slice, and an entry of a table. Assumes nothing.
-use mathlib.Core.Path.{_≡_, refl, sym, ap, _∙_}
+use mathlib.Core.Path.{_≡_, sym, _∙_}
 use mathlib.Core.List.{List, []}
 use Prim.Native.Nat.{ℕ, _+_, _-_, _*_, _/_, _≤_, _<_}
 use native.Mathlib.Nat.{ne-of-lt, le-of-eq, add-sub-cancel-left, mul-div-le, mul-le-mul-left}

@@ -9,7 +9,7 @@ use lib.Dec.{lit≤}
 use lib.ListN.{length, getD, length-append, length-map, List·getD-append}
 use lib.Seq.{getD-append-add}
 use Rattle.rules.specs.Lists.{concatMap, cut, upFrom}
-use Rattle.rules.specs.Mesh.{Mesh, Kind, hex, quad, segment, point, corners, mesh, topology, whole, singles, byDimension, places, placeOf}
+use Rattle.rules.specs.Mesh.{Mesh, Kind, hex, quad, segment, point, corners, mesh, topology, whole, byDimension, places, placeOf}
 use Rattle.rules.specs.Split.{cornersAt, met}
 use Rattle.lists.specs.Membership.{In}
 use Rattle.lists.proofs.Membership.{in-append, in-map, in-concatMap, getD-in, getD-map, getD-upFrom}
@@ -114,7 +114,8 @@ module _ (κ : Kind) (d : ℕ) (table : List ℕ) where
         ∙ at-joined f count (λ cell. length-map (places κ d) (cornersAt cell)) (cut (corners κ) table) (i / count) (i % count) [] [] (rw (length-cut (corners κ) table) cell-below) part-below
         ∙ getD-map (cornersAt (getD (cut (corners κ) table) (i / count) [])) (places κ d) (i % count) [] [] part-below
 
-    pub part-corner-is : (j : ℕ) → j < 2 * d → getD (getD (partsOf κ d table) i []) j 0 ≡ getD table (corners κ * (i / count) + placeOf (places κ d) (i % count) j) 0
+    pub part-corner-is : (j : ℕ) → j < 2 * d
+        → getD (getD (partsOf κ d table) i []) j 0 ≡ getD table (corners κ * (i / count) + placeOf (places κ d) (i % count) j) 0
     unfolding cornersAt
     part-corner-is j l =
         let s = shaped κ d pos low (getD (places κ d) (i % count) []) (getD-in (places κ d) (i % count) [] part-below) in
@@ -166,7 +167,8 @@ no-points (suc d) h [] = refl
 no-points (suc d) h (cell ∷ cells) = no-points (suc d) h cells
 
 -- the walk goes through hexes, quads and segments
-pub met-tables : (d : ℕ) → 0 < d → (m : Mesh) → met (topology m) d ≡ partsOf hex d (m .hexes) ++ (partsOf quad d (m .quads) ++ partsOf segment d (m .segments))
+pub met-tables : (d : ℕ) → 0 < d → (m : Mesh)
+    → met (topology m) d ≡ partsOf hex d (m .hexes) ++ (partsOf quad d (m .quads) ++ partsOf segment d (m .segments))
 unfolding met topology partsOf concatMap
 met-tables d h m = rw (no-points d h (cut 1 (m .points)), append-nil (partsOf segment d (m .segments)))
 

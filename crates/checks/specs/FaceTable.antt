@@ -2,10 +2,10 @@
 -- corner across of the faces with that key.
 use mathlib.Core.Path.{_≡_}
 use mathlib.Core.Bool.{Bool, true, false}
-use mathlib.Core.List.{List, map}
+use mathlib.Core.List.{List}
 use Prim.Native.Nat.{ℕ, _+_, _≤_, _<_}
 use lib.ListN.{length, getD, take}
-use Rattle.rules.specs.Lists.{Key, keyOf, indexOf, meet, distinct}
+use Rattle.rules.specs.Lists.{keyOf, indexOf, meet}
 use Rattle.lists.specs.Membership.{In}
 use Rattle.soundness.specs.Across.{across}
 use Rattle.numbering.specs.Table.{wordsFor, keys, Table}

@@ -61,7 +61,9 @@ pub fn has_repeated_corner(
     segments: &[u32],
     points: &[u32],
 ) -> bool
-    ensures { λ r. ⌜ r ≡ repeatedCorner (topology (mesh (now (xs .entry)) (now (hexes .entry)) (now (quads .entry)) (now (segments .entry)) (now (points .entry)))) ⌝ }
+    ensures { λ r.
+        ⌜ r ≡ repeatedCorner (topology
+        (mesh (now (xs .entry)) (now (hexes .entry)) (now (quads .entry)) (now (segments .entry)) (now (points .entry)))) ⌝ }
 {
     any_repeat(8, hexes)
         || (any_repeat(4, quads) || (any_repeat(2, segments) || any_repeat(1, points)))

@@ -77,7 +77,8 @@ fn meet_face(w: &mut [u32], room: usize, n: usize, face: [u32; 4]) -> Met
 // Whether two faces have one corner set and different neighbours in going round.
 pub fn mismatched_face(w: &mut [u32], hexes: &[u32], quads: &[u32], segments: &[u32]) -> Verdict
     requires { ⌜ repeatedCorner (topology (mesh [] (now hexes) (now quads) (now segments) [])) ≡ false ⌝ }
-    ensures { λ r. ⌜ Decided (mismatchedFace (topology (mesh [] (now (hexes .entry)) (now (quads .entry)) (now (segments .entry)) []))) r ⌝ }
+    ensures { λ r.
+        ⌜ Decided (mismatchedFace (topology (mesh [] (now (hexes .entry)) (now (quads .entry)) (now (segments .entry)) []))) r ⌝ }
 {
     if w.len() == 0 {
         return Verdict::Unknown;

@@ -62,7 +62,9 @@ fn has_duplicate_cell(
     points: &[u32],
 ) -> bool
     requires { ⌜ repeatedCorner (topology (mesh (now xs) (now hexes) (now quads) (now segments) (now points))) ≡ false ⌝ }
-    ensures { λ r. ⌜ r ≡ duplicateCell (topology (mesh (now (xs .entry)) (now (hexes .entry)) (now (quads .entry)) (now (segments .entry)) (now (points .entry)))) ⌝ }
+    ensures { λ r.
+        ⌜ r ≡ duplicateCell (topology
+        (mesh (now (xs .entry)) (now (hexes .entry)) (now (quads .entry)) (now (segments .entry)) (now (points .entry)))) ⌝ }
 {
     has_duplicate(words, Parts::Hexes, hexes)
         || (has_duplicate(words, Parts::Quads, quads)
@@ -95,7 +97,9 @@ fn has_isolated_vertex(
     requires { ⌜ partialEntry (mesh (now xs) (now hexes) (now quads) (now segments) (now points)) ≡ false ⌝ }
     requires { ⌜ countOutOfRange (mesh (now xs) (now hexes) (now quads) (now segments) (now points)) ≡ false ⌝ }
     requires { ⌜ cornerOutOfRange (topology (mesh (now xs) (now hexes) (now quads) (now segments) (now points))) ≡ false ⌝ }
-    ensures { λ r. ⌜ r ≡ isolatedVertex (topology (mesh (now (xs .entry)) (now (hexes .entry)) (now (quads .entry)) (now (segments .entry)) (now (points .entry)))) ⌝ }
+    ensures { λ r.
+        ⌜ r ≡ isolatedVertex (topology
+        (mesh (now (xs .entry)) (now (hexes .entry)) (now (quads .entry)) (now (segments .entry)) (now (points .entry)))) ⌝ }
 {
     let n = xs.len() / 3;
     if n <= words.len() {
@@ -114,7 +118,8 @@ fn cell_refusal(
     points: &[u32],
 ) -> u32
     requires { ⌜ tableChecks (mesh (now xs) (now hexes) (now quads) (now segments) (now points)) 0 ≡ 0 ⌝ }
-    ensures { λ r. ⌜ r ≡ meshChecks (mesh (now (xs .entry)) (now (hexes .entry)) (now (quads .entry)) (now (segments .entry)) (now (points .entry))) 0 ⌝ }
+    ensures { λ r.
+        ⌜ r ≡ meshChecks (mesh (now (xs .entry)) (now (hexes .entry)) (now (quads .entry)) (now (segments .entry)) (now (points .entry))) 0 ⌝ }
 {
     if cells::has_repeated_corner(xs, hexes, quads, segments, points) {
         return 5;
@@ -140,7 +145,8 @@ pub fn mesh_refusal(
     points: &[u32],
     words: &mut [u32],
 ) -> u32
-    ensures { λ r. ⌜ r ≡ meshChecks (mesh (now (xs .entry)) (now (hexes .entry)) (now (quads .entry)) (now (segments .entry)) (now (points .entry))) 0 ⌝ }
+    ensures { λ r.
+        ⌜ r ≡ meshChecks (mesh (now (xs .entry)) (now (hexes .entry)) (now (quads .entry)) (now (segments .entry)) (now (points .entry))) 0 ⌝ }
 {
     let refusal = tables::table_refusal(xs, hexes, quads, segments, points);
     if refusal != 0 {
@@ -183,7 +189,8 @@ pub fn mesh_sizes(
     words: &mut [u32],
 ) -> Sizes
     requires { ⌜ repeatedCorner (topology (mesh (now xs) (now hexes) (now quads) (now segments) (now points))) ≡ false ⌝ }
-    ensures { λ r. ⌜ r ≡ sizes (topology (mesh (now (xs .entry)) (now (hexes .entry)) (now (quads .entry)) (now (segments .entry)) (now (points .entry)))) ⌝ }
+    ensures { λ r.
+        ⌜ r ≡ sizes (topology (mesh (now (xs .entry)) (now (hexes .entry)) (now (quads .entry)) (now (segments .entry)) (now (points .entry)))) ⌝ }
 {
     let edges = edge_count(words, hexes, quads, segments);
     let faces = face_count(words, hexes, quads, segments);

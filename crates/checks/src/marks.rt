@@ -1,9 +1,8 @@
 // Check 8 with one lent number a vertex: each corner is marked, and a vertex without a mark is in no cell.
 ghost use mathlib.Core.Path.{_≡_};
 ghost use mathlib.Core.Bool.{false};
-ghost use Prim.Native.Nat.{ℕ};
 ghost use lib.Dec.{leb, eqb};
-ghost use lib.ListN.{length, getD};
+ghost use lib.ListN.{length};
 ghost use Rattle.rules.specs.Lists.{any, upFrom};
 ghost use Rattle.checks.specs.Held.{isolatedIn};
 ghost use Rattle.checks.specs.Marked.{Marked};

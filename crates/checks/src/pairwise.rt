@@ -48,7 +48,8 @@ fn stands_again(k: usize, table: &[u32], c: usize) -> bool
     requires { ⌜ 0 < k ⌝ }
     requires { ⌜ any (repeats eqb) (cut k (now table)) ≡ false ⌝ }
     requires { ⌜ c < length (cut k (now table)) ⌝ }
-    ensures { λ r. ⌜ r ≡ any (same (keyOf (getD (cut k (now (table .entry))) c []))) (drop (c + 1) (map keyOf (cut k (now (table .entry))))) ⌝ }
+    ensures { λ r.
+        ⌜ r ≡ any (same (keyOf (getD (cut k (now (table .entry))) c []))) (drop (c + 1) (map keyOf (cut k (now (table .entry))))) ⌝ }
 {
     let n = table.len() / k;
     let mut d = c + 1;
@@ -82,7 +83,8 @@ pub fn has_duplicate(k: usize, table: &[u32]) -> bool
 fn same_parts(d: usize, hexes: &[u32], quads: &[u32], segments: &[u32], i: usize, j: usize) -> bool
     requires { ⌜ (0 < d) × (d < 3) ⌝ }
     requires { ⌜ repeatedCorner (topology (mesh [] (now hexes) (now quads) (now segments) [])) ≡ false ⌝ }
-    requires { ⌜ (i < length (metIn d (now hexes) (now quads) (now segments))) × (j < length (metIn d (now hexes) (now quads) (now segments))) ⌝ }
+    requires { ⌜ (i < length (metIn d (now hexes) (now quads) (now segments)))
+        × (j < length (metIn d (now hexes) (now quads) (now segments))) ⌝ }
     ensures { λ r. let parts = metIn d (now (hexes .entry)) (now (quads .entry)) (now (segments .entry)) in
         ⌜ r ≡ same (keyOf (getD parts i [])) (keyOf (getD parts j [])) ⌝ }
 {
@@ -131,7 +133,8 @@ pub fn count_distinct(d: usize, hexes: &[u32], quads: &[u32], segments: &[u32]) 
 // Whether the faces i and j have one corner set and other neighbours in going round.
 fn is_mismatched(hexes: &[u32], quads: &[u32], segments: &[u32], i: usize, j: usize) -> bool
     requires { ⌜ repeatedCorner (topology (mesh [] (now hexes) (now quads) (now segments) [])) ≡ false ⌝ }
-    requires { ⌜ (i < length (metIn 2 (now hexes) (now quads) (now segments))) × (j < length (metIn 2 (now hexes) (now quads) (now segments))) ⌝ }
+    requires { ⌜ (i < length (metIn 2 (now hexes) (now quads) (now segments)))
+        × (j < length (metIn 2 (now hexes) (now quads) (now segments))) ⌝ }
     ensures { λ r. let faces = metIn 2 (now (hexes .entry)) (now (quads .entry)) (now (segments .entry)) in
         ⌜ r ≡ mismatched (getD faces i []) (getD faces j []) ⌝ }
 {

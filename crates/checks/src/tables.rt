@@ -4,7 +4,7 @@ ghost use mathlib.Core.Bool.{false};
 ghost use lib.Dec.{leb};
 ghost use Rattle.rules.specs.Lists.{any};
 ghost use Rattle.rules.specs.Mesh.{mesh, topology};
-ghost use Rattle.rules.specs.Refusals.{partialEntry, countOutOfRange, outside, coordinateOutOfRange, cornerOutOfRange, tableChecks};
+ghost use Rattle.rules.specs.Refusals.{partialEntry, countOutOfRange, outside, cornerOutOfRange, tableChecks};
 
 // 1, document 01: ragged table.
 pub fn has_partial_entry(
@@ -14,7 +14,8 @@ pub fn has_partial_entry(
     segments: &[u32],
     points: &[u32],
 ) -> bool
-    ensures { λ r. ⌜ r ≡ partialEntry (mesh (now (xs .entry)) (now (hexes .entry)) (now (quads .entry)) (now (segments .entry)) (now (points .entry))) ⌝ }
+    ensures { λ r.
+        ⌜ r ≡ partialEntry (mesh (now (xs .entry)) (now (hexes .entry)) (now (quads .entry)) (now (segments .entry)) (now (points .entry))) ⌝ }
 {
     xs.len() % 3 != 0 || (hexes.len() % 8 != 0 || (quads.len() % 4 != 0 || segments.len() % 2 != 0))
 }
@@ -27,7 +28,8 @@ pub fn has_count_out_of_range(
     segments: &[u32],
     points: &[u32],
 ) -> bool
-    ensures { λ r. ⌜ r ≡ countOutOfRange (mesh (now (xs .entry)) (now (hexes .entry)) (now (quads .entry)) (now (segments .entry)) (now (points .entry))) ⌝ }
+    ensures { λ r.
+        ⌜ r ≡ countOutOfRange (mesh (now (xs .entry)) (now (hexes .entry)) (now (quads .entry)) (now (segments .entry)) (now (points .entry))) ⌝ }
 {
     let n = xs.len() / 3;
     n == 0
@@ -81,7 +83,9 @@ pub fn has_corner_out_of_range(
     points: &[u32],
 ) -> bool
     requires { ⌜ partialEntry (mesh (now xs) (now hexes) (now quads) (now segments) (now points)) ≡ false ⌝ }
-    ensures { λ r. ⌜ r ≡ cornerOutOfRange (topology (mesh (now (xs .entry)) (now (hexes .entry)) (now (quads .entry)) (now (segments .entry)) (now (points .entry)))) ⌝ }
+    ensures { λ r.
+        ⌜ r ≡ cornerOutOfRange
+        (topology (mesh (now (xs .entry)) (now (hexes .entry)) (now (quads .entry)) (now (segments .entry)) (now (points .entry)))) ⌝ }
 {
     let n = xs.len() / 3;
     reaches(n, hexes) || (reaches(n, quads) || (reaches(n, segments) || reaches(n, points)))
@@ -95,7 +99,8 @@ pub fn table_refusal(
     segments: &[u32],
     points: &[u32],
 ) -> u32
-    ensures { λ r. ⌜ r ≡ tableChecks (mesh (now (xs .entry)) (now (hexes .entry)) (now (quads .entry)) (now (segments .entry)) (now (points .entry))) 0 ⌝ }
+    ensures { λ r.
+        ⌜ r ≡ tableChecks (mesh (now (xs .entry)) (now (hexes .entry)) (now (quads .entry)) (now (segments .entry)) (now (points .entry))) 0 ⌝ }
 {
     if has_partial_entry(xs, hexes, quads, segments, points) {
         return 1;

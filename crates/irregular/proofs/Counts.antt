@@ -2,14 +2,14 @@
 use mathlib.Core.Path.{_≡_, refl, sym, ap, _∙_, subst}
 use mathlib.Core.Bool.{Bool, true, false, cond}
 use mathlib.Core.List.{List, [], _∷_, _++_}
-use Prim.Native.Nat.{ℕ, zero, suc, _+_, _*_, _^_, _<_, _≤_}
+use Prim.Native.Nat.{ℕ, suc, _+_, _*_, _^_, _<_, _≤_}
 use native.Mathlib.Nat.{add-zero}
 use native.Mathlib.Numerals.{add-one}
 use native.Mathlib.Omega.{arith}
 use lib.Dec.{eqb}
 use lib.ListN.{length, take, getD, set, length-append, length-set}
 use lib.Seq.{take-suc, take-all, length-take-le, getD-set-same, getD-set-other}
-use borrow.Author.Tests.{eqb-true, eqb-false, eq-eqb, ne-eqb}
+use borrow.Author.Tests.{eqb-true, eqb-false, eq-eqb}
 use Rattle.rules.specs.Lists.{keep}
 use Rattle.checks.specs.Marked.{Marked}
 use Rattle.irregular.specs.Times.{times}
@@ -23,7 +23,8 @@ module _ {A : Type 0} where
   keep-append p [] ys = refl
   keep-append p (x ∷ xs) ys = go (p x) (keep-append p xs ys)
     where
-      go : (b : Bool) → keep p (xs ++ ys) ≡ keep p xs ++ keep p ys → cond b (x ∷ keep p (xs ++ ys)) (keep p (xs ++ ys)) ≡ cond b (x ∷ keep p xs) (keep p xs) ++ keep p ys
+      go : (b : Bool) → keep p (xs ++ ys) ≡ keep p xs ++ keep p ys
+          → cond b (x ∷ keep p (xs ++ ys)) (keep p (xs ++ ys)) ≡ cond b (x ∷ keep p xs) (keep p xs) ++ keep p ys
       go true ih = ap (λ (l : List A). x ∷ l) ih
       go false ih = ih
 
@@ -54,7 +55,8 @@ one v x = go (eqb v x)
     go false = refl
 
 times-turn : (v : ℕ) (xs : List ℕ) (i : ℕ) → i < length xs → times v (take (i + 1) xs) ≡ times v (take i xs) + cond (eqb v (getD xs i 0)) 1 0
-times-turn v xs i h = ap (times v) (rw (add-one i) (take-suc xs i 0 h)) ∙ times-append v (take i xs) (getD xs i 0 ∷ []) ∙ ap (λ (k : ℕ). times v (take i xs) + k) (one v (getD xs i 0))
+times-turn v xs i h = ap (times v) (rw (add-one i) (take-suc xs i 0 h)) ∙ times-append v (take i xs) (getD xs i 0 ∷ [])
+    ∙ ap (λ (k : ℕ). times v (take i xs) + k) (one v (getD xs i 0))
 
 -- ---- a table is counted, corner by corner
 
@@ -72,10 +74,12 @@ tally-start n rank w table = record { kept = refl; ranks = λ v l. refl; counts 
 
 module _ {n rank : ℕ} {old new : List ℕ} (table : List ℕ) (i : ℕ) (at : Tallied n rank (take i table) old new) (h : i < length table) (l : getD table i 0 < n) where
   -- a vertex that has another rank, or is not this corner, keeps its count
-  other : (v : ℕ) → (v ≡ getD table i 0 → rank ≡ getD old v 0 → ⊥) → cond (eqb rank (getD old v 0)) (times v (take i table)) 0 ≡ cond (eqb rank (getD old v 0)) (times v (take (i + 1) table)) 0
+  other : (v : ℕ) → (v ≡ getD table i 0 → rank ≡ getD old v 0 → ⊥)
+      → cond (eqb rank (getD old v 0)) (times v (take i table)) 0 ≡ cond (eqb rank (getD old v 0)) (times v (take (i + 1) table)) 0
   other v apart = go (eqb rank (getD old v 0)) refl (eqb v (getD table i 0)) refl
     where
-      go : (b : Bool) → eqb rank (getD old v 0) ≡ b → (c : Bool) → eqb v (getD table i 0) ≡ c → cond (eqb rank (getD old v 0)) (times v (take i table)) 0 ≡ cond (eqb rank (getD old v 0)) (times v (take (i + 1) table)) 0
+      go : (b : Bool) → eqb rank (getD old v 0) ≡ b → (c : Bool) → eqb v (getD table i 0) ≡ c
+          → cond (eqb rank (getD old v 0)) (times v (take i table)) 0 ≡ cond (eqb rank (getD old v 0)) (times v (take (i + 1) table)) 0
       go false p c q = rw p
       go true p true q = absurd (apart (eqb-true v (getD table i 0) q) (eqb-true rank (getD old v 0) p))
       go true p false q = rw (p, times-turn v table i h, q) (sym (add-zero (times v (take i table))))
@@ -94,7 +98,8 @@ module _ {n rank : ℕ} {old new : List ℕ} (table : List ℕ) (i : ℕ) (at : 
       let c = eqb rank (getD old x 0) in
       omega (arith, at .counts x l, if-le c (times x (take i table)), times-le x (take i table), length-take-le i table (omega arith))
 
-  pub tally-hit : 2 * n ≤ length old → rank ≡ getD new (getD table i 0) 0 → Tallied n rank (take (i + 1) table) old (set new (n + getD table i 0) (getD new (n + getD table i 0) 0 + 1))
+  pub tally-hit : 2 * n ≤ length old → rank ≡ getD new (getD table i 0) 0
+      → Tallied n rank (take (i + 1) table) old (set new (n + getD table i 0) (getD new (n + getD table i 0) 0 + 1))
   tally-hit r match = record {
     kept = length-set new (n + getD table i 0) (getD new (n + getD table i 0) 0 + 1) ∙ at .kept;
     ranks = λ v k. getD-set-other new (n + getD table i 0) v (getD new (n + getD table i 0) 0 + 1) 0 (λ q. omega arith) ∙ at .ranks v k;
@@ -118,13 +123,15 @@ module _ {n rank : ℕ} {old new : List ℕ} (table : List ℕ) (i : ℕ) (at : 
           ∙ at .counts v k
           ∙ ap (λ (c : ℕ). getD old (n + v) 0 + c) (other v (λ p q. eqb-false v (getD table i 0) e p))
 
-pub tally-end : {n rank : ℕ} {old new : List ℕ} (table : List ℕ) (i : ℕ) → Tallied n rank (take i table) old new → length table ≤ i → Tallied n rank table old new
+pub tally-end : {n rank : ℕ} {old new : List ℕ} (table : List ℕ) (i : ℕ) → Tallied n rank (take i table) old new → length table ≤ i
+    → Tallied n rank table old new
 tally-end {n} {rank} {old} {new} table i at h = subst (λ (t : List ℕ). Tallied n rank t old new) (take-all i table h) at
 
 -- ---- four tables, one after the other
 
 -- a table adds no more than its length
-pub tally-le : {n rank : ℕ} {table old new : List ℕ} → Tallied n rank table old new → (v : ℕ) → v < n → getD new (n + v) 0 ≤ getD old (n + v) 0 + length table
+pub tally-le : {n rank : ℕ} {table old new : List ℕ} → Tallied n rank table old new → (v : ℕ) → v < n
+    → getD new (n + v) 0 ≤ getD old (n + v) 0 + length table
 tally-le {n} {rank} {table} {old} t v l = omega (arith, t .counts v l, if-le (eqb rank (getD old v 0)) (times v table), times-le v table)
 
 module _ {n : ℕ} {hs qs ss ps w₀ w₁ w₂ w₃ w₄ : List ℕ} (t₀ : Tallied n 0 hs w₀ w₁) (t₁ : Tallied n 1 qs w₁ w₂) (t₂ : Tallied n 2 ss w₂ w₃) (t₃ : Tallied n 3 ps w₃ w₄) where
@@ -145,7 +152,8 @@ module _ {n : ℕ} {hs qs ss ps w₀ w₁ w₂ w₃ w₄ : List ℕ} (t₀ : Tal
 
 -- ---- three marks, one over the other
 
-pub ranked-all : {qs ss ps w₀ w₁ w₂ w₃ : List ℕ} → Marked 1 w₀ w₁ qs → Marked 2 w₁ w₂ ss → Marked 3 w₂ w₃ ps → ((v : ℕ) → v < length w₀ → getD w₀ v 0 ≡ 0) → Ranked qs ss ps w₃
+pub ranked-all : {qs ss ps w₀ w₁ w₂ w₃ : List ℕ} → Marked 1 w₀ w₁ qs → Marked 2 w₁ w₂ ss → Marked 3 w₂ w₃ ps
+    → ((v : ℕ) → v < length w₀ → getD w₀ v 0 ≡ 0) → Ranked qs ss ps w₃
 ranked-all {qs} {ss} {ps} {w₀} {w₁} {w₂} {w₃} m₁ m₂ m₃ none = record {
   ranks = λ v l.
       let l₂ : v < length w₂ = omega (arith, m₃ .kept) in

@@ -10,7 +10,7 @@ use lib.Seq.{getD-append-add, getD-take, getD-drop}
 use Rattle.rules.specs.Lists.{keep, upFrom, has}
 use Rattle.lists.proofs.Membership.{in-upFrom}
 use Rattle.irregular.specs.Times.{times, irregularBy, irregularIn}
-use Rattle.irregular.specs.Tallied.{depth, valenceAt, Ranked, Counted, unusual}
+use Rattle.irregular.specs.Tallied.{depth, Ranked, Counted, unusual}
 use Rattle.irregular.proofs.Keeping.{keep-same}
 use Rattle.irregular.proofs.Valences.{has-times}
 
@@ -84,7 +84,14 @@ module _ (n k : ℕ) (h : 2 * n ≤ k) (w : List ℕ) (start : w ≡ replicate k
 
       unusual-is : (v : ℕ) → v < n → unusual n new v ≡ irregularIn hs qs ss ps v
       unusual-is v l =
-          rw (c .counts v l, c .ranks v l, marked-ranks v l, has-times v ps, has-times v ss, has-times v qs) (usual (times v ps) (times v ss) (times v qs) (times v hs))
+          rw (
+            c .counts v l,
+            c .ranks v l,
+            marked-ranks v l,
+            has-times v ps,
+            has-times v ss,
+            has-times v qs,
+          ) (usual (times v ps) (times v ss) (times v qs) (times v hs))
 
       pub finished-count : length (keep (unusual n new) (upFrom 0 n)) ≡ length (keep (irregularIn hs qs ss ps) (upFrom 0 n))
       finished-count = ap length (keep-same (unusual n new) (irregularIn hs qs ss ps) (upFrom 0 n) (λ v i. unusual-is v (omega (arith, in-upFrom 0 n v i))))

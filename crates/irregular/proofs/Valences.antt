@@ -1,20 +1,18 @@
 -- The irregularity of a vertex by counts is that of the rules. Assumes nothing.
 use mathlib.Core.Path.{_≡_, refl, sym, ap, _∙_, subst}
 use mathlib.Core.Bool.{Bool, true, false, not, cond, _||_}
-use mathlib.Core.Logic.{inl, inr}
 use mathlib.Core.List.{List, [], _∷_, _++_}
-use Prim.Native.Nat.{ℕ, zero, suc, _+_, _/_, _%_, _^_}
+use Prim.Native.Nat.{ℕ, suc, _+_, _/_, _^_}
 use native.Mathlib.Omega.{arith}
 use lib.Dec.{eqb}
 use lib.ListN.{length}
-use borrow.Author.Tests.{ne-eqb, eqb-true, eqb-false}
+use borrow.Author.Tests.{ne-eqb, eqb-true}
 use Rattle.rules.specs.Lists.{any, repeats, keep, concat, cut, upFrom, has}
 use Rattle.rules.specs.Mesh.{Mesh, Kind, hex, quad, segment, point, corners, topology, cellsOf}
-use Rattle.rules.specs.Averaging.{holding, Counted, orElse, counted, rank, valence}
+use Rattle.rules.specs.Averaging.{holding, orElse, counted, rank, valence}
 use Rattle.rules.specs.Refusals.{partialEntry, repeatedCorner}
 use Rattle.rules.specs.EntryPoints.{irregular, irregularCount}
-use Rattle.lists.specs.Membership.{In}
-use Rattle.lists.proofs.Tests.{or-neither, none-in, is-false}
+use Rattle.lists.proofs.Tests.{or-neither}
 use Rattle.lists.proofs.Tables.{concat-cut}
 use Rattle.checks.proofs.ByKind.{tableOf, cells-cut, whole-tables, no-repeats}
 use Rattle.irregular.specs.Times.{times, irregularBy, irregularIn}
@@ -29,7 +27,8 @@ unfolding has any times keep
 has-times v [] = refl
 has-times v (x ∷ xs) = go (eqb v x) (has-times v xs)
   where
-    go : (b : Bool) → any (eqb v) xs ≡ not (eqb (length (keep (eqb v) xs)) 0) → (b || any (eqb v) xs) ≡ not (eqb (length (cond b (x ∷ keep (eqb v) xs) (keep (eqb v) xs))) 0)
+    go : (b : Bool) → any (eqb v) xs ≡ not (eqb (length (keep (eqb v) xs)) 0)
+        → (b || any (eqb v) xs) ≡ not (eqb (length (cond b (x ∷ keep (eqb v) xs) (keep (eqb v) xs))) 0)
     go true ih = rw (ne-eqb (suc (length (keep (eqb v) xs))) 0 (λ e. omega arith))
     go false ih = ih
 
@@ -39,7 +38,8 @@ unfolding repeats has any times keep
 once-times v [] h = refl
 once-times v (x ∷ xs) h = let p = or-neither (any (eqb x) xs) (repeats eqb xs) h in go (eqb v x) refl (p .0) (once-times v xs (p .1))
   where
-    go : (b : Bool) → eqb v x ≡ b → any (eqb x) xs ≡ false → length (keep (eqb v) xs) ≡ cond (any (eqb v) xs) 1 0 → length (cond b (x ∷ keep (eqb v) xs) (keep (eqb v) xs)) ≡ cond (b || any (eqb v) xs) 1 0
+    go : (b : Bool) → eqb v x ≡ b → any (eqb x) xs ≡ false → length (keep (eqb v) xs) ≡ cond (any (eqb v) xs) 1 0
+        → length (cond b (x ∷ keep (eqb v) xs) (keep (eqb v) xs)) ≡ cond (b || any (eqb v) xs) 1 0
     go true e n ih =
         let none : any (eqb v) xs ≡ false = subst (λ (y : ℕ). any (eqb y) xs ≡ false) (sym (eqb-true v x e)) n in
         ap suc (ih ∙ rw none)
@@ -52,7 +52,8 @@ held-times v (c ∷ cs) h =
     let b = or-neither (repeats eqb c) (any (repeats eqb) cs) h in
     go (has v c) (once-times v c (b .0)) (held-times v cs (b .1))
   where
-    go : (b : Bool) → times v c ≡ cond b 1 0 → length (keep (has v) cs) ≡ times v (concat cs) → length (cond b (c ∷ keep (has v) cs) (keep (has v) cs)) ≡ times v (c ++ concat cs)
+    go : (b : Bool) → times v c ≡ cond b 1 0 → length (keep (has v) cs) ≡ times v (concat cs)
+        → length (cond b (c ∷ keep (has v) cs) (keep (has v) cs)) ≡ times v (c ++ concat cs)
     go true e ih = rw (times-append v c (concat cs), e) (omega arith)
     go false e ih = rw (times-append v c (concat cs), e) (omega arith)
 

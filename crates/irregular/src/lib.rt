@@ -5,7 +5,6 @@
 // the checks near-linear (see `checks`); with fewer than 2 V each vertex is looked for in all tables.
 use rules::CountAnswer;
 ghost use mathlib.Core.Path.{_≡_};
-ghost use lib.ListN.{length};
 ghost use Rattle.rules.specs.Mesh.{mesh, topology};
 ghost use Rattle.rules.specs.Refusals.{meshChecks};
 ghost use Rattle.rules.specs.EntryPoints.{cleared, irregularCount, irregularAnswer};
@@ -25,7 +24,9 @@ fn count(
     words: &mut [u32],
 ) -> u64
     requires { ⌜ meshChecks (mesh (now xs) (now hexes) (now quads) (now segments) (now points)) 0 ≡ 0 ⌝ }
-    ensures { λ r. ⌜ r ≡ irregularCount (topology (mesh (now (xs .entry)) (now (hexes .entry)) (now (quads .entry)) (now (segments .entry)) (now (points .entry)))) ⌝ }
+    ensures { λ r.
+        ⌜ r ≡ irregularCount (topology
+        (mesh (now (xs .entry)) (now (hexes .entry)) (now (quads .entry)) (now (segments .entry)) (now (points .entry)))) ⌝ }
 {
     let n = xs.len() / 3;
     if 2 * n <= words.len() {
@@ -43,7 +44,8 @@ pub fn irregular_count(
     points: &[u32],
     words: &mut [u32],
 ) -> CountAnswer
-    ensures { λ r. ⌜ r ≡ irregularAnswer (mesh (now (xs .entry)) (now (hexes .entry)) (now (quads .entry)) (now (segments .entry)) (now (points .entry))) ⌝ }
+    ensures { λ r.
+        ⌜ r ≡ irregularAnswer (mesh (now (xs .entry)) (now (hexes .entry)) (now (quads .entry)) (now (segments .entry)) (now (points .entry))) ⌝ }
     ensures { λ _. ⌜ now (words .exit) ≡ cleared (now (words .entry)) ⌝ }
 {
     let refusal = checks::mesh_refusal(xs, hexes, quads, segments, points, words);

@@ -40,7 +40,9 @@ fn is_irregular(v: u32, hexes: &[u32], quads: &[u32], segments: &[u32], points: 
 
 // How many of n vertices are irregular.
 pub fn count(n: u32, hexes: &[u32], quads: &[u32], segments: &[u32], points: &[u32]) -> u64
-    ensures { λ r. ⌜ r ≡ length (keep (irregularIn (now (hexes .entry)) (now (quads .entry)) (now (segments .entry)) (now (points .entry))) (upFrom 0 n)) ⌝ }
+    ensures { λ r.
+        ⌜ r ≡ length (keep (irregularIn (now (hexes .entry)) (now (quads .entry)) (now (segments .entry)) (now (points .entry)))
+        (upFrom 0 n)) ⌝ }
 {
     let mut count = 0;
     let mut v = 0;

@@ -41,7 +41,8 @@ fn tally_all(
     requires { ⌜ (any (leb n) (now segments) ≡ false) × (any (leb n) (now points) ≡ false) ⌝ }
     requires { ⌜ length (now hexes) + (length (now quads) + (length (now segments) + length (now points))) < 2 ^ 32 ⌝ }
     requires { ⌜ ((v : ℕ) → v < n → getD (now w) (n + v) 0 ≡ 0) ⌝ }
-    ensures { λ _. ⌜ Counted n (now (hexes .entry)) (now (quads .entry)) (now (segments .entry)) (now (points .entry)) (now (w .entry)) (now (w .exit)) ⌝ }
+    ensures { λ _.
+        ⌜ Counted n (now (hexes .entry)) (now (quads .entry)) (now (segments .entry)) (now (points .entry)) (now (w .entry)) (now (w .exit)) ⌝ }
 {
     tally(w, n, 0, hexes);
     tally(w, n, 1, quads);
@@ -105,7 +106,9 @@ pub fn count(
     requires { ⌜ (any (leb n) (now hexes) ≡ false) × (any (leb n) (now quads) ≡ false) ⌝ }
     requires { ⌜ (any (leb n) (now segments) ≡ false) × (any (leb n) (now points) ≡ false) ⌝ }
     requires { ⌜ length (now hexes) + (length (now quads) + (length (now segments) + length (now points))) < 2 ^ 32 ⌝ }
-    ensures { λ r. ⌜ r ≡ length (keep (irregularIn (now (hexes .entry)) (now (quads .entry)) (now (segments .entry)) (now (points .entry))) (upFrom 0 n)) ⌝ }
+    ensures { λ r.
+        ⌜ r ≡ length (keep (irregularIn (now (hexes .entry)) (now (quads .entry)) (now (segments .entry)) (now (points .entry)))
+        (upFrom 0 n)) ⌝ }
 {
     memory::clear_u32(w);
     mark_ranks(&mut w[..n], quads, segments, points);

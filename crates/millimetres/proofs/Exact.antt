@@ -26,10 +26,13 @@ use Rattle.rules.specs.EntryPoints.{inMillimetres, millimetresRefusal, millimet
 abbrev pub negative : ℤ → Bool
 negative z = ltZ z (pos 0)
 
+value : (s : Bool) (n : ℕ) → HasValue (odd 30 s n 0 10) s n 1024
+value s n = subst (λ (a : ℕ). HasValue (odd 30 s n 0 10) s a 1024) (mul-one n) (odd-sign 30 s n 0 10)
+
 -- The report is finite, has the coordinate's sign, and is in size |z| / 1024: m * 2 ^ e * 1024 is |z|, by cross-multiplying.
 pub exact : (z : ℤ) → HasValue (inMillimetres z) (negative z) (natAbs z) 1024
 unfolding inMillimetres
-exact z = subst (λ (n : ℕ). HasValue (inMillimetres z) (negative z) n 1024) (mul-one (natAbs z)) (odd-sign 30 (negative z) (natAbs z) 0 10)
+exact z = value (negative z) (natAbs z)
 
 -- ---- two values that fit and are the same number with the same sign are one
 
@@ -80,9 +83,7 @@ module _ (s : Bool) (n : ℕ) (h : n < 2 ^ 30) where
   round-value = round-exact binary64 s n 1024 n 1064 (lit< tt) (omega arith) room (sym (mul-assoc n (2 ^ 1064) 1024))
 
   rounded : round binary64 s n 1024 ≡ odd 30 s n 0 10
-  rounded =
-      one-value binary64 s n 1024 (lit< tt) (round-fits binary64 s n 1024) odd-holds round-value
-      (subst (λ (a : ℕ). HasValue (odd 30 s n 0 10) s a 1024) (mul-one n) (odd-sign 30 s n 0 10))
+  rounded = one-value binary64 s n 1024 (lit< tt) (round-fits binary64 s n 1024) odd-holds round-value (value s n)
 
 -- ---- one division
 
@@ -144,7 +145,8 @@ abbrev origin : Millimetres
 origin = record { x = ofBits binary64 0; y = ofBits binary64 0; z = ofBits binary64 0 }
 
 module _ (x y z : ℤ) where
-  pub refused : (outside x || (outside y || outside z)) ≡ true → _≡_ {A = MillimetresAnswer} (record { refusal = 3; position = origin }) (millimetresAnswer x y z)
+  pub refused : (outside x || (outside y || outside z)) ≡ true
+      → _≡_ {A = MillimetresAnswer} (record { refusal = 3; position = origin }) (millimetresAnswer x y z)
   unfolding millimetresAnswer millimetresRefusal ofBits inMillimetres
   refused e = rw e
 

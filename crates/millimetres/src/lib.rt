@@ -1,18 +1,12 @@
 // The millimetre report: a vertex's position as three 64-bit floats. Each is the unit count over 1024, exactly, or three zeros and
-// refusal 3. Rests on the definitions of `rules`; no `requires`.
+// refusal 3. Rests on the definitions of `rules` and on check 3 of one coordinate; no `requires`.
+use checks::tables::is_outside;
 use rules::Millimetres;
 use rules::MillimetresAnswer;
 ghost use mathlib.Core.Path.{_≡_};
 ghost use mathlib.Core.Bool.{false, _||_};
 ghost use Rattle.rules.specs.Refusals.{outside};
 ghost use Rattle.rules.specs.EntryPoints.{inMillimetres, millimetresAnswer};
-
-// Check 3 of one coordinate.
-fn is_outside(z: i32) -> bool
-    ensures { λ r. ⌜ r ≡ outside z ⌝ }
-{
-    z < -536870912 || 536870911 < z
-}
 
 // Check 3 of a position.
 fn any_outside(x: i32, y: i32, z: i32) -> bool

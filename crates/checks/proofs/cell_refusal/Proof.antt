@@ -38,7 +38,15 @@ returns-3 c =
     let d = f .before .before .before .before .before in
     let e = d .before .before in
     let s = e .before .before .before .before .before .before .before in
-    rw (cells-decide (meshOf s) (passed s) 0, plain e, ← d .has-duplicate-cell .ensures, f .before .before .if2 .left, mismatched-tables (meshOf s), ← f .has-mismatched-face .ensures, c .if3 .taken)
+    rw (
+      cells-decide (meshOf s) (passed s) 0,
+      plain e,
+      ← d .has-duplicate-cell .ensures,
+      f .before .before .if2 .left,
+      mismatched-tables (meshOf s),
+      ← f .has-mismatched-face .ensures,
+      c .if3 .taken,
+    )
 
 returns-4 : tie.Need-returns-4
 returns-4 c =
@@ -47,7 +55,17 @@ returns-4 c =
     let d = f .before .before .before .before .before in
     let e = d .before .before in
     let s = e .before .before .before .before .before .before .before in
-    rw (cells-decide (meshOf s) (passed s) 0, plain e, ← d .has-duplicate-cell .ensures, f .before .before .if2 .left, mismatched-tables (meshOf s), ← f .has-mismatched-face .ensures, v .before .before .if3 .left, ← v .has-isolated-vertex .ensures, c .if4 .taken)
+    rw (
+      cells-decide (meshOf s) (passed s) 0,
+      plain e,
+      ← d .has-duplicate-cell .ensures,
+      f .before .before .if2 .left,
+      mismatched-tables (meshOf s),
+      ← f .has-mismatched-face .ensures,
+      v .before .before .if3 .left,
+      ← v .has-isolated-vertex .ensures,
+      c .if4 .taken,
+    )
 
 returns-5 : tie.Need-returns-5
 returns-5 c =
@@ -56,7 +74,17 @@ returns-5 c =
     let d = f .before .before .before .before .before in
     let e = d .before .before in
     let s = e .before .before .before .before .before .before .before in
-    rw (cells-decide (meshOf s) (passed s) 0, plain e, ← d .has-duplicate-cell .ensures, f .before .before .if2 .left, mismatched-tables (meshOf s), ← f .has-mismatched-face .ensures, v .before .before .if3 .left, ← v .has-isolated-vertex .ensures, c .if4 .left)
+    rw (
+      cells-decide (meshOf s) (passed s) 0,
+      plain e,
+      ← d .has-duplicate-cell .ensures,
+      f .before .before .if2 .left,
+      mismatched-tables (meshOf s),
+      ← f .has-mismatched-face .ensures,
+      v .before .before .if3 .left,
+      ← v .has-isolated-vertex .ensures,
+      c .if4 .left,
+    )
 
 has-mismatched-face-requires : tie.Need-has-mismatched-face-requires
 has-mismatched-face-requires c κs = let e = c .before .before .before .before .before .before in fewer-tables (meshOf (e .before .before .before .before .before .before .before)) (plain e)

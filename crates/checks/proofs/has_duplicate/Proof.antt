@@ -1,11 +1,8 @@
 -- `checks::has_duplicate` meets its contract: by the count of distinct keys, or cell by cell. Assumes nothing.
 use mathlib.Core.Path.{_≡_, sym, ap, _∙_}
-use mathlib.Core.Bool.{not}
 use mathlib.Core.List.{List, [], _∷_, map}
 use Prim.Native.Nat.{ℕ, _/_, _<_, _≤_}
-use native.Mathlib.Omega.{arith}
 use borrow.Author.Needs.{needs}
-use lib.Dec.{eqb}
 use lib.ListN.{length, take, length-map}
 use lib.Seq.{length-take-le}
 use Rattle.rules.specs.Lists.{cut, keyOf, distinct}
@@ -48,7 +45,8 @@ returns c =
     let k = cellCorners (s .args .of) in
     let cells = cut k (s .args .cells .now) in
     let n = rw (c .before .tally .given .1) at (d .count-table .ensures) in
-    let e : c .before .tally .given .0 .0 ≡ length (distinct (map keyOf cells)) = n ∙ ap (λ (ks : List (List ℕ)). length (distinct ks)) (cell-keys (s .args .of) (s .pre .0) (s .args .cells .now)) in
+    let e : c .before .tally .given .0 .0 ≡ length (distinct (map keyOf cells)) = n
+    ∙ ap (λ (ks : List (List ℕ)). length (distinct ks)) (cell-keys (s .args .of) (s .pre .0) (s .args .cells .now)) in
     let l : length (s .args .cells .now) / b .corners-of .result ≡ length (map keyOf cells) =
     ap (λ (j : ℕ). length (s .args .cells .now) / j) (b .corners-of .ensures) ∙ sym (length-map cells keyOf ∙ length-cut k (s .args .cells .now)) in
     rw (e, l) (sym (repeats-by-count (map keyOf cells)))

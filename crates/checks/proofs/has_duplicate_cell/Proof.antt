@@ -13,7 +13,10 @@ has-duplicate-requires : tie.Need-has-duplicate-requires
 has-duplicate-requires c κs = let s = c .before .before .before .before .before .before in (refl, no-repeats (meshOf s) (s .pre) hex)
 
 has-duplicate-requires-2 : tie.Need-has-duplicate-requires-2
-has-duplicate-requires-2 c κs = let s = c .before .before .before .before .before .before .before .before .before .before .before in (refl, no-repeats (meshOf s) (s .pre) quad)
+has-duplicate-requires-2 c κs = let s = c .before .before .before .before .before .before .before .before .before .before .before in (
+  refl,
+  no-repeats (meshOf s) (s .pre) quad,
+)
 
 has-duplicate-requires-3 : tie.Need-has-duplicate-requires-3
 has-duplicate-requires-3 c κs = let s = c .before .before .before .before .before .before .before .before .before .before .before .before .before .before .before .before in (refl, no-repeats (meshOf s) (s .pre) segment)
@@ -30,14 +33,28 @@ returns-2 : tie.Need-returns-2
 returns-2 c =
     let q = c .before .before .before in
     let h = q .before .before .before .before .before in
-    rw (duplicate-tables (meshOf (h .before .before .before .before .before .before .before)), ← h .has-duplicate .ensures, q .before .before .if1 .left, ← q .has-duplicate2 .ensures, c .if2 .taken)
+    rw (
+      duplicate-tables (meshOf (h .before .before .before .before .before .before .before)),
+      ← h .has-duplicate .ensures,
+      q .before .before .if1 .left,
+      ← q .has-duplicate2 .ensures,
+      c .if2 .taken,
+    )
 
 returns-3 : tie.Need-returns-3
 returns-3 c =
     let s = c .before .before .before in
     let q = s .before .before .before .before .before in
     let h = q .before .before .before .before .before in
-    rw (duplicate-tables (meshOf (h .before .before .before .before .before .before .before)), ← h .has-duplicate .ensures, q .before .before .if1 .left, ← q .has-duplicate2 .ensures, s .before .before .if2 .left, ← s .has-duplicate3 .ensures, c .if3 .taken)
+    rw (
+      duplicate-tables (meshOf (h .before .before .before .before .before .before .before)),
+      ← h .has-duplicate .ensures,
+      q .before .before .if1 .left,
+      ← q .has-duplicate2 .ensures,
+      s .before .before .if2 .left,
+      ← s .has-duplicate3 .ensures,
+      c .if3 .taken,
+    )
 
 returns-4 : tie.Need-returns-4
 returns-4 c =
@@ -45,7 +62,16 @@ returns-4 c =
     let s = p .before .before .before .before .before in
     let q = s .before .before .before .before .before in
     let h = q .before .before .before .before .before in
-    rw (duplicate-tables (meshOf (h .before .before .before .before .before .before .before)), ← h .has-duplicate .ensures, q .before .before .if1 .left, ← q .has-duplicate2 .ensures, s .before .before .if2 .left, ← s .has-duplicate3 .ensures, p .before .before .if3 .left, p .has-duplicate4 .ensures)
+    rw (
+      duplicate-tables (meshOf (h .before .before .before .before .before .before .before)),
+      ← h .has-duplicate .ensures,
+      q .before .before .if1 .left,
+      ← q .has-duplicate2 .ensures,
+      s .before .before .if2 .left,
+      ← s .has-duplicate3 .ensures,
+      p .before .before .if3 .left,
+      p .has-duplicate4 .ensures,
+    )
 
 pub has-duplicate-cell-spec : {M : Type 1} → statement M
 has-duplicate-cell-spec =

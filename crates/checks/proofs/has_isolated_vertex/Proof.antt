@@ -33,7 +33,8 @@ returns c =
     (rw (size t) at (d .has-isolated-vertex .ensures)) ∙ sym (isolated-tables (meshOf s) (s .pre .0))
 
 returns-2 : tie.Need-returns-2
-returns-2 c = let s = c .before .before .before .before .before .before .before in c .has-isolated-vertex2 .ensures ∙ sym (isolated-tables (meshOf s) (s .pre .0))
+returns-2 c = let s = c .before .before .before .before .before .before .before in c .has-isolated-vertex2 .ensures
+    ∙ sym (isolated-tables (meshOf s) (s .pre .0))
 
 pub has-isolated-vertex-spec : {M : Type 1} → statement M
 has-isolated-vertex-spec =

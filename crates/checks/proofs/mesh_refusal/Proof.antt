@@ -1,5 +1,5 @@
 -- `checks::mesh_refusal` meets its contract. Assumes nothing.
-use mathlib.Core.Path.{_≡_, sym, _∙_}
+use mathlib.Core.Path.{_∙_}
 use borrow.Author.Needs.{needs}
 use Rattle.rules.specs.Mesh.{Mesh, mesh}
 use Rattle.checks.proofs.Passed.{tables-refuse}

@@ -25,7 +25,8 @@ vertex-count : (m : Mesh) → topology m .vertexCount ≡ length (m .vertices) /
 unfolding topology
 vertex-count m = refl
 
-sizes-are : (m : Mesh) (e f : ℕ) → e ≡ length (distinct (map keyOf (metIn 1 (m .hexes) (m .quads) (m .segments)))) → f ≡ length (distinct (map keyOf (metIn 2 (m .hexes) (m .quads) (m .segments))))
+sizes-are : (m : Mesh) (e f : ℕ) → e ≡ length (distinct (map keyOf (metIn 1 (m .hexes) (m .quads) (m .segments))))
+    → f ≡ length (distinct (map keyOf (metIn 2 (m .hexes) (m .quads) (m .segments))))
     → _≡_ {A = Sizes}
     (record { vertices = length (m .vertices) / 3; edges = e; faces = f; hexes = length (m .hexes) / 8; quads = length (m .quads) / 4; segments = length (m .segments) / 2; points = length (m .points) })
     (sizes (topology m))

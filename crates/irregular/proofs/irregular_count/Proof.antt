@@ -22,7 +22,8 @@ refused m r e h = rw (← e) (go r h)
     go zero h = absurd (h refl)
     go (suc r) h = refl
 
-answered : (m : Mesh) (n : ℕ) → meshChecks m 0 ≡ 0 → n ≡ irregularCount (topology m) → _≡_ {A = CountAnswer} (record { refusal = 0; count = n }) (irregularAnswer m)
+answered : (m : Mesh) (n : ℕ) → meshChecks m 0 ≡ 0 → n ≡ irregularCount (topology m)
+    → _≡_ {A = CountAnswer} (record { refusal = 0; count = n }) (irregularAnswer m)
 unfolding irregularAnswer
 answered m n h e = rw (h, e)
 

@@ -13,7 +13,11 @@ use Rattle.millimetres.proofs.millimetres.Tie as tie
 tested : (s : tie.After-any-outside) → let a = s .before .args in s .any-outside .result ≡ (outside (a .x) || (outside (a .y) || outside (a .z)))
 tested s =
     let b = s .before in
-    rw (toZ-ofZ w32 (b .args .x) (b .fits .x), toZ-ofZ w32 (b .args .y) (b .fits .y), toZ-ofZ w32 (b .args .z) (b .fits .z)) at (s .any-outside .ensures)
+    rw (
+      toZ-ofZ w32 (b .args .x) (b .fits .x),
+      toZ-ofZ w32 (b .args .y) (b .fits .y),
+      toZ-ofZ w32 (b .args .z) (b .fits .z),
+    ) at (s .any-outside .ensures)
 
 inside : (c : tie.Else1) → let a = c .before .before .args in Inside (a .x) (a .y) (a .z)
 inside c = let a = c .before .before .args in none-outside (a .x) (a .y) (a .z) (sym (tested (c .before)) ∙ c .if1 .left)
@@ -36,7 +40,8 @@ returns-2 c =
     let first = rw (toZ-ofZ w32 (s .args .x) (s .fits .x)) at (c .before .before .in-millimetres .ensures) in
     let second = rw (toZ-ofZ w32 (s .args .y) (s .fits .y)) at (c .before .in-millimetres2 .ensures) in
     let third = rw (toZ-ofZ w32 (s .args .z) (s .fits .z)) at (c .in-millimetres3 .ensures) in
-    rw (first, second, third) (accepted (s .args .x) (s .args .y) (s .args .z) (sym (tested (c .before .before .before .before)) ∙ c .before .before .before .if1 .left))
+    rw (first, second, third) (accepted (s .args .x) (s .args .y) (s .args .z) (sym (tested (c .before .before .before .before))
+    ∙ c .before .before .before .if1 .left))
 
 pub millimetres-spec : {M : Type 1} → statement M
 millimetres-spec =

@@ -1,7 +1,7 @@
 -- `checks::cells::any_repeat` meets its contract. Assumes nothing.
 use mathlib.Core.Path.{_≡_, sym, _∙_}
 use mathlib.Core.List.{[]}
-use Prim.Native.Nat.{_+_, _-_, _*_, _/_, _≤_, _<_}
+use Prim.Native.Nat.{_+_, _-_, _*_, _≤_, _<_}
 use native.Mathlib.Nat.{div-le-self}
 use native.Mathlib.Omega.{arith}
 use lib.Dec.{eqb}
@@ -20,7 +20,8 @@ abbrev μ-loop : tie.MeasureT-loop
 μ-loop k table n c₀ c = n - c
 
 -- cell c is one of the table's
-listed : (l : tie.In-loop Inv-loop μ-loop) → l .before .loop .c < length (cut (l .before .before .before .args .k) (l .before .before .before .args .table .now))
+listed : (l : tie.In-loop Inv-loop μ-loop)
+    → l .before .loop .c < length (cut (l .before .before .before .args .k) (l .before .before .before .args .table .now))
 listed l = let a = l .before .before .before .args in rw (length-cut (a .k) (a .table .now)) (l .loop-test .taken)
 
 -- and lies within it

@@ -17,13 +17,30 @@ returns-2 c =
 returns-3 : tie.Need-returns-3
 returns-3 c =
     let b = c .before .before .before .before .before in
-    rw (repeat-tables _, ← b .any-repeat .ensures, c .before .before .before .before .if1 .left, ← c .before .before .before .any-repeat2 .ensures, c .before .before .if2 .left, ← c .before .any-repeat3 .ensures, c .if3 .taken)
+    rw (
+      repeat-tables _,
+      ← b .any-repeat .ensures,
+      c .before .before .before .before .if1 .left,
+      ← c .before .before .before .any-repeat2 .ensures,
+      c .before .before .if2 .left,
+      ← c .before .any-repeat3 .ensures,
+      c .if3 .taken,
+    )
 
 returns-4 : tie.Need-returns-4
 returns-4 c =
     let d = c .before .before in
     let b = d .before .before .before .before in
-    rw (repeat-tables _, ← b .any-repeat .ensures, d .before .before .before .if1 .left, ← d .before .before .any-repeat2 .ensures, d .before .if2 .left, ← d .any-repeat3 .ensures, c .before .if3 .left, c .any-repeat4 .ensures)
+    rw (
+      repeat-tables _,
+      ← b .any-repeat .ensures,
+      d .before .before .before .if1 .left,
+      ← d .before .before .any-repeat2 .ensures,
+      d .before .if2 .left,
+      ← d .any-repeat3 .ensures,
+      c .before .if3 .left,
+      c .any-repeat4 .ensures,
+    )
 
 pub has-repeated-corner-spec : {M : Type 1} → statement M
 has-repeated-corner-spec =

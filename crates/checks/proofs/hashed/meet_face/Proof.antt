@@ -1,5 +1,5 @@
 -- `checks::hashed::meet_face` meets its contract. Assumes nothing.
-use mathlib.Core.Path.{_≡_, sym, ap, _∙_, subst}
+use mathlib.Core.Path.{_≡_, sym, ap, _∙_}
 use mathlib.Core.List.{_++_}
 use Prim.Native.Nat.{_+_, _<_}
 use native.Mathlib.Omega.{arith}
@@ -13,8 +13,6 @@ use Rattle.checks.specs.FaceTable.{front}
 use Rattle.checks.proofs.FaceTableLaws.{number-within, agreed-new, agreed-known, differed}
 use Rattle.checks.proofs.hashed.meet_face.Statement.{statement}
 use Rattle.checks.proofs.hashed.meet_face.Tie as tie
-use Rattle.checks.proofs.hashed.meet_face.Reads as reads
-use Rattle.checks.proofs.hashed.meet_face.Lts as lts
 
 four : (s : tie.Start) → length (s .args .face) ≡ 4
 four s = omega arith

@@ -1,22 +1,18 @@
 -- `checks::hashed::mismatched_face` meets its contract. Assumes nothing.
-use mathlib.Core.Path.{_≡_, refl, sym, ap, _∙_, subst}
+use mathlib.Core.Path.{_≡_, refl, sym, _∙_}
 use mathlib.Core.List.{List, []}
-use Prim.Native.Nat.{ℕ, _-_, _<_, _≤_}
-use native.Mathlib.Nat.{le-of-eq}
+use Prim.Native.Nat.{ℕ, _-_, _<_}
 use native.Mathlib.Omega.{arith}
 use borrow.Author.Needs.{needs}
 use lib.Dec.{lit<}
-use lib.ListN.{length, getD, take}
+use lib.ListN.{length, getD}
 use lib.Seq.{take-all}
 use Rattle.rules.specs.Mesh.{mesh, topology}
 use Rattle.soundness.proofs.Checks.{mesh-sized}
 use Rattle.checks.specs.Walk.{metIn}
-use Rattle.checks.specs.FaceTable.{Agreed}
 use Rattle.checks.proofs.FaceWalk.{FacesMet, met-start, met-turn, met-differs, met-end}
 use Rattle.checks.proofs.hashed.mismatched_face.Statement.{statement}
 use Rattle.checks.proofs.hashed.mismatched_face.Tie as tie
-use Rattle.checks.proofs.hashed.mismatched_face.Reads as reads
-use Rattle.checks.proofs.hashed.mismatched_face.Lts as lts
 
 abbrev Inv-loop : tie.InvT-loop
 Inv-loop w₀ hexes quads segments room count n₀ i₀ w n i = (length w ≡ length w₀) × FacesMet (metIn 2 hexes quads segments) w room n i
@@ -28,11 +24,13 @@ abbrev μ-loop : tie.MeasureT-loop
 abbrev fs : tie.Start Inv-loop μ-loop → List (List ℕ)
 fs s = metIn 2 (s .args .hexes .now) (s .args .quads .now) (s .args .segments .now)
 
-listed : (l : tie.In-loop Inv-loop μ-loop) → l .before .loop .i < length (fs (l .before .before .before .before .before .before .before .before .before .before .before .before))
+listed : (l : tie.In-loop Inv-loop μ-loop)
+    → l .before .loop .i < length (fs (l .before .before .before .before .before .before .before .before .before .before .before .before))
 listed l = rw (← l .before .before .part-count .ensures) (l .loop-test .taken)
 
 -- the face that is met
-face : (c : tie.After-part-at Inv-loop μ-loop) → c .part-at .result ≡ getD (fs (c .before .before .before .before .before .before .before .before .before .before .before .before .before)) (c .before .before .loop .i) []
+face : (c : tie.After-part-at Inv-loop μ-loop)
+    → c .part-at .result ≡ getD (fs (c .before .before .before .before .before .before .before .before .before .before .before .before .before)) (c .before .before .loop .i) []
 face c = sym (take-all 4 (c .part-at .result) (omega (arith, c .part-at .ok))) ∙ c .part-at .ensures
 
 -- the memory is as long as it was

@@ -1,7 +1,7 @@
 -- `checks::pairwise::has_duplicate` meets its contract. Assumes nothing.
-use mathlib.Core.Path.{_≡_, sym, ap, _∙_}
+use mathlib.Core.Path.{_≡_, sym, _∙_}
 use mathlib.Core.List.{[], map}
-use Prim.Native.Nat.{_+_, _-_, _<_, _≤_}
+use Prim.Native.Nat.{_+_, _-_, _<_}
 use native.Mathlib.Nat.{div-le-self}
 use native.Mathlib.Omega.{arith}
 use lib.ListN.{length, getD, drop, length-map}
@@ -23,7 +23,8 @@ listed : (l : tie.In-loop Inv-loop μ-loop) → let a = l .before .before .befor
 listed l = let a = l .before .before .before .args in rw (length-cut (a .k) (a .table .now)) (l .loop-test .taken)
 
 -- and so is its key
-keyed : (l : tie.In-loop Inv-loop μ-loop) → let a = l .before .before .before .args in l .before .loop .c < length (map keyOf (cut (a .k) (a .table .now)))
+keyed : (l : tie.In-loop Inv-loop μ-loop)
+    → let a = l .before .before .before .args in l .before .loop .c < length (map keyOf (cut (a .k) (a .table .now)))
 keyed l = let a = l .before .before .before .args in rw (length-map (cut (a .k) (a .table .now)) keyOf) (listed l)
 
 tested : (c : tie.After-stands-again Inv-loop μ-loop) →
@@ -43,12 +44,16 @@ returns : tie.Need-returns Inv-loop μ-loop
 returns c = let l = c .before .before in scan-hit (repeats-search same) [] (l .before .loop .inv) (keyed l) (sym (tested (c .before)) ∙ c .if1 .taken)
 
 loop-again : tie.Need-loop-again Inv-loop μ-loop
-loop-again c = let l = c .before .before in scan-miss (repeats-search same) [] (l .before .loop .inv) (keyed l) (sym (tested (c .before)) ∙ c .if1 .left)
+loop-again c = let l = c .before .before in scan-miss (repeats-search same) [] (l .before .loop .inv) (keyed l) (sym (tested (c .before))
+    ∙ c .if1 .left)
 
 returns-2 : tie.Need-returns-2 Inv-loop μ-loop
 returns-2 c =
     let a = c .before .before .before .args in
-    scan-end (repeats-search same) (c .before .loop .inv) (rw (length-map (cut (a .k) (a .table .now)) keyOf, length-cut (a .k) (a .table .now)) (c .loop-test .left))
+    scan-end (repeats-search same) (c .before .loop .inv) (rw (
+      length-map (cut (a .k) (a .table .now)) keyOf,
+      length-cut (a .k) (a .table .now),
+    ) (c .loop-test .left))
 
 pub has-duplicate-spec : {M : Type 1} → statement M
 has-duplicate-spec =

@@ -1,11 +1,11 @@
 -- `checks::pairwise::has_mismatched_face` meets its contract. Assumes nothing.
-use mathlib.Core.Path.{_≡_, sym, _∙_}
+use mathlib.Core.Path.{sym, _∙_}
 use mathlib.Core.Bool.{Bool}
 use mathlib.Core.List.{List, []}
 use Prim.Native.Nat.{ℕ, _-_, _<_}
 use native.Mathlib.Omega.{arith}
 use lib.Dec.{lit<}
-use lib.ListN.{length, getD}
+use lib.ListN.{length}
 use Rattle.rules.specs.Lists.{any}
 use Rattle.rules.specs.Refusals.{mismatched, mismatchedFace}
 use Rattle.checks.specs.Walk.{metIn}

@@ -15,14 +15,29 @@ returns-3 : tie.Need-returns-3
 returns-3 c =
     let d = c .before .before in
     let b = d .before .before in
-    rw (← b .before .has-number .ensures, b .if1 .left, ← d .before .has-number2 .ensures, d .if2 .left, ← c .before .has-number3 .ensures, c .if3 .taken)
+    rw (
+      ← b .before .has-number .ensures,
+      b .if1 .left,
+      ← d .before .has-number2 .ensures,
+      d .if2 .left,
+      ← c .before .has-number3 .ensures,
+      c .if3 .taken,
+    )
 
 returns-4 : tie.Need-returns-4
 returns-4 c =
     let e = c .before in
     let d = e .before .before in
     let b = d .before .before in
-    rw (← b .before .has-number .ensures, b .if1 .left, ← d .before .has-number2 .ensures, d .if2 .left, ← e .before .has-number3 .ensures, e .if3 .left, c .has-number4 .ensures)
+    rw (
+      ← b .before .has-number .ensures,
+      b .if1 .left,
+      ← d .before .has-number2 .ensures,
+      d .if2 .left,
+      ← e .before .has-number3 .ensures,
+      e .if3 .left,
+      c .has-number4 .ensures,
+    )
 
 pub is-held-spec : {M : Type 1} → statement M
 is-held-spec =

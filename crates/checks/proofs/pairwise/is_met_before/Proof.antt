@@ -1,11 +1,11 @@
 -- `checks::pairwise::is_met_before` meets its contract. Assumes nothing.
-use mathlib.Core.Path.{_≡_, sym, ap, _∙_}
+use mathlib.Core.Path.{_≡_, sym, _∙_}
 use mathlib.Core.List.{List, [], map}
-use Prim.Native.Nat.{ℕ, _-_, _<_, _≤_}
+use Prim.Native.Nat.{ℕ, _-_}
 use native.Mathlib.Omega.{arith}
 use lib.ListN.{length, getD, take, length-map}
 use lib.Seq.{length-take-le, getD-take}
-use Rattle.rules.specs.Lists.{any, Key, keyOf, same}
+use Rattle.rules.specs.Lists.{any, keyOf, same}
 use Rattle.lists.proofs.Membership.{getD-map}
 use Rattle.checks.specs.Walk.{metIn}
 use Rattle.checks.proofs.Scans.{Scanning, any-search, scan-start, scan-hit, scan-miss, scan-end}

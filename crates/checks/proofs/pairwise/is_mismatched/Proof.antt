@@ -1,13 +1,8 @@
 -- `checks::pairwise::is_mismatched` meets its contract. Assumes nothing.
-use mathlib.Core.Path.{_≡_, sym, ap, _∙_}
-use mathlib.Core.Bool.{not}
-use mathlib.Core.List.{List, []}
-use Prim.Native.Nat.{ℕ}
+use mathlib.Core.Path.{sym, ap, _∙_}
 use borrow.Author.Needs.{needs}
 use borrow.Author.Tests.{not-true, not-false}
-use lib.ListN.{getD}
 use Rattle.soundness.specs.Across.{across}
-use Rattle.checks.specs.Walk.{metIn}
 use Rattle.checks.proofs.Mismatch.{across-take, mismatched-at}
 use Rattle.checks.proofs.pairwise.is_mismatched.Statement.{statement}
 use Rattle.checks.proofs.pairwise.is_mismatched.Tie as tie
@@ -17,7 +12,11 @@ returns c =
     let b = c .before in
     let s = b .before .before .before .before in
     let a = s .args in
-    rw (mismatched-at (a .hexes .now) (a .quads .now) (a .segments .now) (s .pre .0) (a .i) (a .j) (s .pre .1 .0) (s .pre .1 .1), ← b .same-parts .ensures, not-true (b .same-parts .result) (c .if1 .taken))
+    rw (
+      mismatched-at (a .hexes .now) (a .quads .now) (a .segments .now) (s .pre .0) (a .i) (a .j) (s .pre .1 .0) (s .pre .1 .1),
+      ← b .same-parts .ensures,
+      not-true (b .same-parts .result) (c .if1 .taken),
+    )
 
 returns-2 : tie.Need-returns-2
 returns-2 c =

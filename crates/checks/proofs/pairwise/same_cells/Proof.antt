@@ -21,10 +21,12 @@ second : (c : tie.Start) → c .args .k * c .args .d + c .args .k ≤ length (c 
 second c = entry-within (c .args .k) (c .args .d) (c .args .table .now) (c .pre .1 .1)
 
 -- what holds of a cell of the table
-sized : (s : tie.Start) (i : ℕ) → i < length (cut (s .args .k) (s .args .table .now)) → length (getD (cut (s .args .k) (s .args .table .now)) i []) ≡ s .args .k
+sized : (s : tie.Start) (i : ℕ) → i < length (cut (s .args .k) (s .args .table .now))
+    → length (getD (cut (s .args .k) (s .args .table .now)) i []) ≡ s .args .k
 sized s i h = length-entry (s .args .k) (s .args .table .now) (getD (cut (s .args .k) (s .args .table .now)) i []) (getD-in (cut (s .args .k) (s .args .table .now)) i [] h)
 
-plain : (s : tie.Start) (i : ℕ) → i < length (cut (s .args .k) (s .args .table .now)) → repeats eqb (getD (cut (s .args .k) (s .args .table .now)) i []) ≡ false
+plain : (s : tie.Start) (i : ℕ) → i < length (cut (s .args .k) (s .args .table .now))
+    → repeats eqb (getD (cut (s .args .k) (s .args .table .now)) i []) ≡ false
 plain s i h = none-at (repeats eqb) (cut (s .args .k) (s .args .table .now)) [] (s .pre .0) i h
 
 same-corners-requires : tie.Need-same-corners-requires
@@ -38,7 +40,10 @@ returns : tie.Need-returns
 returns c =
     let s = c .before .before .before .before in
     let a = s .args in
-    rw (entry-part (a .k) (a .c) (a .table .now) (s .pre .1 .0), entry-part (a .k) (a .d) (a .table .now) (s .pre .1 .1)) at (c .same-corners .ensures)
+    rw (
+      entry-part (a .k) (a .c) (a .table .now) (s .pre .1 .0),
+      entry-part (a .k) (a .d) (a .table .now) (s .pre .1 .1),
+    ) at (c .same-corners .ensures)
 
 pub same-cells-spec : {M : Type 1} → statement M
 same-cells-spec =

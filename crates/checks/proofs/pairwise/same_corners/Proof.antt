@@ -1,10 +1,10 @@
 -- `checks::pairwise::same_corners` meets its contract. Assumes nothing.
 use mathlib.Core.Path.{_≡_, sym, ap, _∙_}
-use mathlib.Core.Bool.{Bool, true, false, not}
+use mathlib.Core.Bool.{not}
 use Prim.Native.Nat.{_-_}
 use native.Mathlib.Omega.{arith}
-use lib.ListN.{length, getD}
-use Rattle.rules.specs.Lists.{any, has, keyOf, same}
+use lib.ListN.{length}
+use Rattle.rules.specs.Lists.{any, keyOf, same}
 use Rattle.checks.proofs.Scans.{Scanning, any-search, scan-start, scan-hit, scan-miss, scan-end}
 use Rattle.checks.proofs.CornerSets.{strange, same-by-corners}
 use Rattle.checks.proofs.pairwise.same_corners.Statement.{statement}
@@ -17,13 +17,15 @@ abbrev μ-loop : tie.MeasureT-loop
 μ-loop a b i₀ i = length a - i
 
 -- what the loop finds decides
-decided : (s : tie.Start Inv-loop μ-loop) → same (keyOf (s .args .a .now)) (keyOf (s .args .b .now)) ≡ not (any (strange (s .args .b .now)) (s .args .a .now))
+decided : (s : tie.Start Inv-loop μ-loop)
+    → same (keyOf (s .args .a .now)) (keyOf (s .args .b .now)) ≡ not (any (strange (s .args .b .now)) (s .args .a .now))
 decided s = same-by-corners (s .args .a .now) (s .args .b .now) (s .pre .0) (s .pre .1 .0) (s .pre .1 .1)
 
 returns : tie.Need-returns Inv-loop μ-loop
 returns c =
     let l = c .before .before .before in
-    let found = scan-hit (any-search _) 0 (l .before .loop .inv) (l .loop-test .taken) (ap not (sym (c .before .has-number .ensures)) ∙ c .if1 .taken) in
+    let found = scan-hit (any-search _) 0 (l .before .loop .inv) (l .loop-test .taken) (ap not (sym (c .before .has-number .ensures))
+    ∙ c .if1 .taken) in
     sym (decided (l .before .before .before .before) ∙ ap not (sym found))
 
 loop-again : tie.Need-loop-again Inv-loop μ-loop

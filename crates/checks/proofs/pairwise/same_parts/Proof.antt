@@ -1,17 +1,17 @@
 -- `checks::pairwise::same_parts` meets its contract. Assumes nothing.
-use mathlib.Core.Path.{_≡_, sym, ap, _∙_}
+use mathlib.Core.Path.{_≡_, sym, _∙_}
 use mathlib.Core.List.{[]}
 use Prim.Native.Nat.{ℕ, _*_, _<_}
-use native.Mathlib.Omega.{arith}
 use borrow.Author.Needs.{needs}
-use lib.ListN.{length, getD, take}
+use lib.ListN.{length, getD}
 use Rattle.checks.specs.Walk.{metIn}
 use Rattle.checks.proofs.PlainParts.{part-size, part-plain}
 use Rattle.checks.proofs.pairwise.same_parts.Statement.{statement}
 use Rattle.checks.proofs.pairwise.same_parts.Tie as tie
 
 -- a part of the walk has 2 d corners
-size : (s : tie.Start) (i : ℕ) → i < length (metIn (s .args .d) (s .args .hexes .now) (s .args .quads .now) (s .args .segments .now)) → length (getD (metIn (s .args .d) (s .args .hexes .now) (s .args .quads .now) (s .args .segments .now)) i []) ≡ 2 * s .args .d
+size : (s : tie.Start) (i : ℕ) → i < length (metIn (s .args .d) (s .args .hexes .now) (s .args .quads .now) (s .args .segments .now))
+    → length (getD (metIn (s .args .d) (s .args .hexes .now) (s .args .quads .now) (s .args .segments .now)) i []) ≡ 2 * s .args .d
 size s i l = part-size (s .args .d) (s .pre .0 .0) (s .pre .0 .1) (s .args .hexes .now) (s .args .quads .now) (s .args .segments .now) i l
 
 same-corners-requires : tie.Need-same-corners-requires

@@ -1,11 +1,11 @@
 -- `checks::pairwise::stands_again` meets its contract. Assumes nothing.
-use mathlib.Core.Path.{_≡_, sym, ap, _∙_}
+use mathlib.Core.Path.{_≡_, sym, _∙_}
 use mathlib.Core.List.{[], map}
-use Prim.Native.Nat.{_+_, _-_, _<_, _≤_}
+use Prim.Native.Nat.{_+_, _-_, _<_}
 use native.Mathlib.Nat.{div-le-self}
 use native.Mathlib.Omega.{arith}
 use lib.ListN.{length, getD, drop, length-map}
-use Rattle.rules.specs.Lists.{any, cut, Key, keyOf, same}
+use Rattle.rules.specs.Lists.{any, cut, keyOf, same}
 use Rattle.lists.proofs.Membership.{getD-map}
 use Rattle.lists.proofs.Tables.{length-cut}
 use Rattle.checks.proofs.Scans.{Scanning, any-search, scan-from, scan-hit, scan-miss, scan-end}
@@ -26,7 +26,8 @@ listed : (l : tie.In-loop Inv-loop μ-loop) → let a = l .before .before .befor
 listed l = let a = l .before .before .before .args in rw (length-cut (a .k) (a .table .now)) (l .loop-test .taken)
 
 -- and so is its key
-keyed : (l : tie.In-loop Inv-loop μ-loop) → let a = l .before .before .before .args in l .before .loop .d < length (map keyOf (cut (a .k) (a .table .now)))
+keyed : (l : tie.In-loop Inv-loop μ-loop)
+    → let a = l .before .before .before .args in l .before .loop .d < length (map keyOf (cut (a .k) (a .table .now)))
 keyed l = let a = l .before .before .before .args in rw (length-map (cut (a .k) (a .table .now)) keyOf) (listed l)
 
 tested : (c : tie.After-same-cells Inv-loop μ-loop) →
@@ -56,7 +57,10 @@ loop-again c = let l = c .before .before in scan-miss (any-search _) [] (l .befo
 returns-2 : tie.Need-returns-2 Inv-loop μ-loop
 returns-2 c =
     let a = c .before .before .before .args in
-    scan-end (any-search _) (c .before .loop .inv) (rw (length-map (cut (a .k) (a .table .now)) keyOf, length-cut (a .k) (a .table .now)) (c .loop-test .left))
+    scan-end (any-search _) (c .before .loop .inv) (rw (
+      length-map (cut (a .k) (a .table .now)) keyOf,
+      length-cut (a .k) (a .table .now),
+    ) (c .loop-test .left))
 
 pub stands-again-spec : {M : Type 1} → statement M
 stands-again-spec =
@@ -65,7 +69,12 @@ stands-again-spec =
     Inv-loop
     μ-loop
     (λ c. c .before .pre .0)
-    (λ c. let s = c .before in omega (arith, s .pre .1 .1, length-cut (s .args .k) (s .args .table .now), div-le-self (length (s .args .table .now)) (s .args .k)))
+    (λ c. let s = c .before in omega (
+      arith,
+      s .pre .1 .1,
+      length-cut (s .args .k) (s .args .table .now),
+      div-le-self (length (s .args .table .now)) (s .args .k),
+    ))
     loop-holds
     same-cells-requires
     returns

@@ -1,10 +1,7 @@
 -- `checks::parts::in_quads` meets its contract. Assumes nothing.
-use mathlib.Core.Path.{_≡_, sym, _∙_}
-use Prim.Native.Nat.{_*_, _/_}
+use mathlib.Core.Path.{sym}
 use native.Mathlib.Omega.{arith}
-use lib.ListN.{length}
 use Rattle.rules.specs.Mesh.{quad, byDimension, places}
-use Rattle.checks.specs.Walk.{partsOf}
 use Rattle.checks.proofs.WalkLaws.{length-parts, few-parts}
 use Rattle.checks.proofs.parts.in_quads.Statement.{statement}
 use Rattle.checks.proofs.parts.in_quads.Tie as tie

@@ -1,8 +1,6 @@
 -- `checks::parts::in_segments` meets its contract. Assumes nothing.
-use mathlib.Core.Path.{_≡_, sym, _∙_}
-use Prim.Native.Nat.{_*_, _/_}
+use mathlib.Core.Path.{_≡_}
 use native.Mathlib.Omega.{arith}
-use lib.ListN.{length}
 use Rattle.rules.specs.Mesh.{segment, byDimension, places}
 use Rattle.checks.proofs.WalkLaws.{length-parts}
 use Rattle.checks.proofs.parts.in_segments.Statement.{statement}

@@ -1,6 +1,6 @@
 -- `checks::parts::part_count` meets its contract. Assumes nothing.
-use mathlib.Core.Path.{_≡_, sym}
-use Prim.Native.Nat.{ℕ, _+_, _<_, _^_}
+use mathlib.Core.Path.{sym}
+use Prim.Native.Nat.{_<_, _^_}
 use native.Mathlib.Omega.{arith}
 use borrow.Author.Needs.{needs}
 use lib.ListN.{length}
@@ -13,7 +13,11 @@ returns : tie.Need-returns
 returns c =
     let s = c .before .before .before .before .before .before in
     let a = s .args in
-    rw (c .before .before .in-hexes .ensures, c .before .in-quads .ensures, c .in-segments .ensures) (sym (length-met (a .d) (s .pre .0) (a .hexes .now) (a .quads .now) (a .segments .now)))
+    rw (
+      c .before .before .in-hexes .ensures,
+      c .before .in-quads .ensures,
+      c .in-segments .ensures,
+    ) (sym (length-met (a .d) (s .pre .0) (a .hexes .now) (a .quads .now) (a .segments .now)))
 
 fits : (c : tie.After-in-segments) → let a = c .before .before .before .before .before .before .args in length (metIn (a .d) (a .hexes .now) (a .quads .now) (a .segments .now)) < 2 ^ 64
 fits c =

@@ -19,7 +19,8 @@ abbrev μ-loop : tie.MeasureT-loop
 μ-loop xs i₀ i = length xs - i
 
 -- what the call says of the coordinate
-tested : (c : tie.After-is-outside Inv-loop μ-loop) → c .is-outside .result ≡ outside (getD (c .before .before .before .before .args .xs .now) (c .before .before .before .loop .i) (pos 0))
+tested : (c : tie.After-is-outside Inv-loop μ-loop)
+    → c .is-outside .result ≡ outside (getD (c .before .before .before .before .args .xs .now) (c .before .before .before .loop .i) (pos 0))
 tested c =
     let l = c .before .before .before in
     rw (toZ-ofZ w32 (getD (l .before .args .xs .now) (l .loop .i) (pos 0)) (record { sfits = c .before .is-outside-arg .given })) at (c .is-outside .ensures)

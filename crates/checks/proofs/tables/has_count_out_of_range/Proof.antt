@@ -20,19 +20,37 @@ returns-3 c = rw (ne-eqb _ _ (c .before .before .if1 .left), le-ltb _ _ (c .befo
 
 returns-4 : tie.Need-returns-4
 unfolding countOutOfRange outOfRange countsOf
-returns-4 c = rw (ne-eqb _ _ (c .before .before .before .if1 .left), le-ltb _ _ (c .before .before .if2 .left), le-ltb _ _ (c .before .if3 .left), lt-ltb _ _ (c .if4 .taken))
+returns-4 c = rw (
+  ne-eqb _ _ (c .before .before .before .if1 .left),
+  le-ltb _ _ (c .before .before .if2 .left),
+  le-ltb _ _ (c .before .if3 .left),
+  lt-ltb _ _ (c .if4 .taken),
+)
 
 returns-5 : tie.Need-returns-5
 unfolding countOutOfRange outOfRange countsOf
 returns-5 c =
     let b = c .before .before in
-    rw (ne-eqb _ _ (b .before .before .if1 .left), le-ltb _ _ (b .before .if2 .left), le-ltb _ _ (b .if3 .left), le-ltb _ _ (c .before .if4 .left), lt-ltb _ _ (c .if5 .taken))
+    rw (
+      ne-eqb _ _ (b .before .before .if1 .left),
+      le-ltb _ _ (b .before .if2 .left),
+      le-ltb _ _ (b .if3 .left),
+      le-ltb _ _ (c .before .if4 .left),
+      lt-ltb _ _ (c .if5 .taken),
+    )
 
 returns-6 : tie.Need-returns-6
 unfolding countOutOfRange outOfRange countsOf
 returns-6 c =
     let b = c .before .before in
-    rw (div-one, ne-eqb _ _ (b .before .before .if1 .left), le-ltb _ _ (b .before .if2 .left), le-ltb _ _ (b .if3 .left), le-ltb _ _ (c .before .if4 .left), le-ltb _ _ (c .if5 .left))
+    rw (
+      div-one,
+      ne-eqb _ _ (b .before .before .if1 .left),
+      le-ltb _ _ (b .before .if2 .left),
+      le-ltb _ _ (b .if3 .left),
+      le-ltb _ _ (c .before .if4 .left),
+      le-ltb _ _ (c .if5 .left),
+    )
 
 pub has-count-out-of-range-spec : {M : Type 1} → statement M
 has-count-out-of-range-spec = tie.close (tie.spec returns returns-2 returns-3 returns-4 returns-5 returns-6)

@@ -1,6 +1,5 @@
 -- `checks::tables::table_refusal` meets its contract: each return rewrites with the tests that led there. Assumes nothing.
-use mathlib.Core.Path.{_≡_, sym, _∙_}
-use mathlib.Core.Bool.{false}
+use mathlib.Core.Path.{sym, _∙_}
 use borrow.Author.Needs.{needs}
 use Rattle.rules.specs.Refusals.{coordinateOutOfRange, tableChecks}
 use Rattle.checks.proofs.tables.table_refusal.Statement.{statement}
@@ -21,7 +20,14 @@ unfolding tableChecks coordinateOutOfRange
 returns-3 c =
     let d = c .before .before in
     let b = d .before .before in
-    rw (← b .before .has-partial-entry .ensures, b .if1 .left, ← d .before .has-count-out-of-range .ensures, d .if2 .left, ← c .before .has-coordinate-out-of-range .ensures, c .if3 .taken)
+    rw (
+      ← b .before .has-partial-entry .ensures,
+      b .if1 .left,
+      ← d .before .has-count-out-of-range .ensures,
+      d .if2 .left,
+      ← c .before .has-coordinate-out-of-range .ensures,
+      c .if3 .taken,
+    )
 
 has-corner-out-of-range-requires : tie.Need-has-corner-out-of-range-requires
 has-corner-out-of-range-requires c κs = let b = c .before .before .before .before in sym (b .before .has-partial-entry .ensures) ∙ b .if1 .left
@@ -32,7 +38,16 @@ returns-4 c =
     let e = c .before .before in
     let d = e .before .before in
     let b = d .before .before in
-    rw (← b .before .has-partial-entry .ensures, b .if1 .left, ← d .before .has-count-out-of-range .ensures, d .if2 .left, ← e .before .has-coordinate-out-of-range .ensures, e .if3 .left, ← c .before .has-corner-out-of-range .ensures, c .if4 .taken)
+    rw (
+      ← b .before .has-partial-entry .ensures,
+      b .if1 .left,
+      ← d .before .has-count-out-of-range .ensures,
+      d .if2 .left,
+      ← e .before .has-coordinate-out-of-range .ensures,
+      e .if3 .left,
+      ← c .before .has-corner-out-of-range .ensures,
+      c .if4 .taken,
+    )
 
 returns-5 : tie.Need-returns-5
 unfolding tableChecks coordinateOutOfRange
@@ -40,7 +55,16 @@ returns-5 c =
     let e = c .before .before in
     let d = e .before .before in
     let b = d .before .before in
-    rw (← b .before .has-partial-entry .ensures, b .if1 .left, ← d .before .has-count-out-of-range .ensures, d .if2 .left, ← e .before .has-coordinate-out-of-range .ensures, e .if3 .left, ← c .before .has-corner-out-of-range .ensures, c .if4 .left)
+    rw (
+      ← b .before .has-partial-entry .ensures,
+      b .if1 .left,
+      ← d .before .has-count-out-of-range .ensures,
+      d .if2 .left,
+      ← e .before .has-coordinate-out-of-range .ensures,
+      e .if3 .left,
+      ← c .before .has-corner-out-of-range .ensures,
+      c .if4 .left,
+    )
 
 pub table-refusal-spec : {M : Type 1} → statement M
 table-refusal-spec =

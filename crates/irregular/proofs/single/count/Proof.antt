@@ -32,7 +32,12 @@ count-spec =
     μ-loop
     (λ c. keep-start _ _)
     (λ c κs. tt)
-    (λ c. let l = c .before .before in omega (arith, l .before .loop .inv .few, l .loop-test .taken, l .before .before .before .before .before .before .fits .n))
+    (λ c. let l = c .before .before in omega (
+      arith,
+      l .before .loop .inv .few,
+      l .loop-test .taken,
+      l .before .before .before .before .before .before .fits .n,
+    ))
     (λ c. let l = c .before .before in omega (arith, l .loop-test .taken, l .before .before .before .before .before .before .fits .n))
     (λ c. omega arith)
     loop-again

@@ -1,5 +1,4 @@
 -- `irregular::single::is_irregular` meets its contract: each return rewrites with the counts that led there. Assumes nothing.
-use mathlib.Core.Path.{sym, _∙_}
 use borrow.Author.Needs.{needs}
 use borrow.Author.Tests.{eq-eqb, ne-eqb}
 use Rattle.irregular.proofs.single.is_irregular.Statement.{statement}
@@ -17,14 +16,29 @@ returns-3 : tie.Need-returns-3
 returns-3 c =
     let s = c .before .before in
     let p = s .before .before in
-    rw (← p .before .times .ensures, eq-eqb _ _ (p .if1 .left), ← s .before .times2 .ensures, eq-eqb _ _ (s .if2 .left), ← c .before .times3 .ensures, ne-eqb _ _ (c .if3 .taken))
+    rw (
+      ← p .before .times .ensures,
+      eq-eqb _ _ (p .if1 .left),
+      ← s .before .times2 .ensures,
+      eq-eqb _ _ (s .if2 .left),
+      ← c .before .times3 .ensures,
+      ne-eqb _ _ (c .if3 .taken),
+    )
 
 returns-4 : tie.Need-returns-4
 returns-4 c =
     let q = c .before in
     let s = q .before .before in
     let p = s .before .before in
-    rw (← p .before .times .ensures, eq-eqb _ _ (p .if1 .left), ← s .before .times2 .ensures, eq-eqb _ _ (s .if2 .left), ← q .before .times3 .ensures, eq-eqb _ _ (q .if3 .left), c .times4 .ensures)
+    rw (
+      ← p .before .times .ensures,
+      eq-eqb _ _ (p .if1 .left),
+      ← s .before .times2 .ensures,
+      eq-eqb _ _ (s .if2 .left),
+      ← q .before .times3 .ensures,
+      eq-eqb _ _ (q .if3 .left),
+      c .times4 .ensures,
+    )
 
 pub is-irregular-spec : {M : Type 1} → statement M
 is-irregular-spec =

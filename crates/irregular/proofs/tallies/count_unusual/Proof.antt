@@ -6,7 +6,7 @@ use Prim.Native.Nat.{_-_, _+_}
 use native.Mathlib.Omega.{arith}
 use borrow.Author.Tests.{eq-eqb, ne-eqb}
 use lib.Dec.{eqb}
-use lib.ListN.{length, getD}
+use lib.ListN.{getD}
 use Rattle.rules.specs.Lists.{upFrom}
 use Rattle.irregular.specs.Tallied.{unusual}
 use Rattle.irregular.proofs.Keeping.{Keeping, keep-start, range-hit, range-miss, range-end}

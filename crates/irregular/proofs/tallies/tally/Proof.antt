@@ -1,5 +1,4 @@
 -- `irregular::tallies::tally` meets its contract. Assumes nothing.
-use mathlib.Core.Path.{_≡_, sym, _∙_}
 use mathlib.Core.Logic.{⊎-elim}
 use Prim.Native.Nat.{_-_, _+_, _<_}
 use native.Mathlib.Omega.{arith}
@@ -21,7 +20,8 @@ below : (l : tie.In-loop Inv-loop μ-loop) → let s = l .before .before in getD
 below l = let s = l .before .before in corner-below (s .args .n) (s .args .table .now) (s .pre .1 .0) (l .before .loop .i) (l .loop-test .taken)
 
 -- and its count stands within the memory
-inside : (l : tie.In-loop Inv-loop μ-loop) → let s = l .before .before in s .args .n + getD (s .args .table .now) (l .before .loop .i) 0 < length (s .args .w .now)
+inside : (l : tie.In-loop Inv-loop μ-loop)
+    → let s = l .before .before in s .args .n + getD (s .args .table .now) (l .before .loop .i) 0 < length (s .args .w .now)
 inside l = let s = l .before .before in omega (arith, below l, s .pre .0)
 
 loop-again : tie.Need-loop-again Inv-loop μ-loop

@@ -18,7 +18,8 @@ kept-2 c = c .tally2 .ensures .kept ∙ kept-1 (c .before .before .before .befor
 kept-3 : (c : tie.After-tally3) → length (c .tally3 .last .0) ≡ length (c .before .before .before .before .before .before .before .before .before .before .before .before .before .before .before .args .w .now)
 kept-3 c = c .tally3 .ensures .kept ∙ kept-2 (c .before .before .before .before)
 
-small-1 : (c : tie.After-tally) (v : ℕ) → let a = c .before .before .before .before .before .before .before .args in v < a .n → getD (c .tally .last .0) (a .n + v) 0 ≤ length (a .hexes .now)
+small-1 : (c : tie.After-tally) (v : ℕ) → let a = c .before .before .before .before .before .before .before .args in v < a .n
+    → getD (c .tally .last .0) (a .n + v) 0 ≤ length (a .hexes .now)
 small-1 c v l = omega (arith, tally-le (c .tally .ensures) v l, c .before .before .before .before .before .before .before .pre .1 .1 .1 .1 v l)
 
 small-2 : (c : tie.After-tally2) (v : ℕ) → let a = c .before .before .before .before .before .before .before .before .before .before .before .args in v < a .n → getD (c .tally2 .last .0) (a .n + v) 0 ≤ length (a .hexes .now) + length (a .quads .now)
@@ -28,7 +29,10 @@ small-3 : (c : tie.After-tally3) (v : ℕ) → let a = c .before .before .before
 small-3 c v l = omega (arith, tally-le (c .tally3 .ensures) v l, small-2 (c .before .before .before .before) v l)
 
 tally-requires : tie.Need-tally-requires
-tally-requires c κs = let s = c .before .before .before .before .before .before in (s .pre .0, (s .pre .1 .0 .0, λ v l. omega (arith, s .pre .1 .1 .1 .1 v l, s .pre .1 .1 .1 .0)))
+tally-requires c κs = let s = c .before .before .before .before .before .before in (
+  s .pre .0,
+  (s .pre .1 .0 .0, λ v l. omega (arith, s .pre .1 .1 .1 .1 v l, s .pre .1 .1 .1 .0)),
+)
 
 tally-requires-2 : tie.Need-tally-requires-2
 tally-requires-2 c κs =
