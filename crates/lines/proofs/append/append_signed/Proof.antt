@@ -1,0 +1,38 @@
+-- `lines::append::append_signed` meets its contract. Assumes nothing.
+use mathlib.Core.Path.{_≡_, sym, ap, _∙_}
+use mathlib.Core.List.{List, [], _∷_}
+use Prim.Native.Nat.{ℕ}
+use lib.IntN.{natAbs}
+use borrow.Author.Needs.{needs}
+use mir.Facts.{toZ-ofZ}
+use Rattle.rules.specs.Listing.{decimal, signedDecimal}
+use Rattle.lines.proofs.Runs.{_then_, room-first, room-rest}
+use Rattle.lines.proofs.Digits.{signed-below, signed-above}
+use Rattle.lines.proofs.append.append_signed.Statement.{statement}
+use Rattle.lines.proofs.append.append_signed.Tie as tie
+
+-- on either way the bytes are those of the rules
+below : (c : tie.Then1) → signedDecimal (c .before .before .before .args .z) ≡ 45 ∷ decimal (c .before .magnitude .result)
+below c = let s = c .before .before .before in
+    signed-below (s .args .z) (rw (toZ-ofZ (s .fits .z)) at (c .if1 .taken)) ∙ ap (λ (n : ℕ). 45 ∷ decimal n) (sym (c .before .magnitude .ensures))
+
+above : (c : tie.Else1) → signedDecimal (c .before .before .before .args .z) ≡ decimal (c .before .magnitude .result)
+above c = let s = c .before .before .before in
+    signed-above (s .args .z) (rw (toZ-ofZ (s .fits .z)) at (c .if1 .left)) ∙ ap decimal (sym (c .before .magnitude .ensures))
+
+pub append-signed-spec : {M : Type 1} → statement M
+append-signed-spec =
+    tie.close
+    (tie.spec
+    (λ c κs. tt)
+    (λ c κs. room-first (45 ∷ []) _ (rw (below (c .before)) at (c .before .before .before .before .pre)))
+    (λ c κs.
+    let b = c .before .before .before .before .before in
+    room-rest _ (c .before .before .before .append-byte .ensures) (rw (below b) at (b .before .before .before .pre)))
+    (λ c. search needs)
+    (λ c.
+    let b = c .before .before .before .before .before .before .before .before in
+    rw (below b) (c .before .before .before .before .before .before .append-byte .ensures then c .before .before .append-decimal .ensures))
+    (λ c κs. rw (above (c .before)) at (c .before .before .before .before .pre))
+    (λ c. search needs)
+    (λ c. rw (above (c .before .before .before .before)) (c .before .before .append-decimal2 .ensures)))

@@ -1,0 +1,2 @@
+// What the listing program prints, as bytes in a buffer.
+pub mod append;
