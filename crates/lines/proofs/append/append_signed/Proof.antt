@@ -1,8 +1,6 @@
 -- `lines::append::append_signed` meets its contract. Assumes nothing.
-use mathlib.Core.Path.{_≡_, sym, ap, _∙_}
-use mathlib.Core.List.{List, [], _∷_}
-use Prim.Native.Nat.{ℕ}
-use lib.IntN.{natAbs}
+use mathlib.Core.Path.{_≡_}
+use mathlib.Core.List.{[], _∷_}
 use borrow.Author.Needs.{needs}
 use mir.Facts.{toZ-ofZ}
 use Rattle.rules.specs.Listing.{decimal, signedDecimal}
@@ -11,14 +9,18 @@ use Rattle.lines.proofs.Digits.{signed-below, signed-above}
 use Rattle.lines.proofs.append.append_signed.Statement.{statement}
 use Rattle.lines.proofs.append.append_signed.Tie as tie
 
--- on either way the bytes are those of the rules
+-- on either way the bytes are those of the rules; a signed number is handed on by its bits
 below : (c : tie.Then1) → signedDecimal (c .before .before .before .args .z) ≡ 45 ∷ decimal (c .before .magnitude .result)
-below c = let s = c .before .before .before in
-    signed-below (s .args .z) (rw (toZ-ofZ (s .fits .z)) at (c .if1 .taken)) ∙ ap (λ (n : ℕ). 45 ∷ decimal n) (sym (c .before .magnitude .ensures))
+below c =
+    let s = c .before .before .before in
+    let same = toZ-ofZ (s .fits .z) in
+    rw (rw same at (c .before .magnitude .ensures)) (signed-below (s .args .z) (rw same at (c .if1 .taken)))
 
 above : (c : tie.Else1) → signedDecimal (c .before .before .before .args .z) ≡ decimal (c .before .magnitude .result)
-above c = let s = c .before .before .before in
-    signed-above (s .args .z) (rw (toZ-ofZ (s .fits .z)) at (c .if1 .left)) ∙ ap decimal (sym (c .before .magnitude .ensures))
+above c =
+    let s = c .before .before .before in
+    let same = toZ-ofZ (s .fits .z) in
+    rw (rw same at (c .before .magnitude .ensures)) (signed-above (s .args .z) (rw same at (c .if1 .left)))
 
 pub append-signed-spec : {M : Type 1} → statement M
 append-signed-spec =
