@@ -3,3 +3,7 @@
 pub mod Runs
 -- Digits: the decimal digits of a number.
 pub mod Digits
+-- Fields: the lines of the rules as runs of bytes.
+pub mod Fields
+-- Held: the cells that hold a vertex, counted.
+pub mod Held
