@@ -7,3 +7,5 @@ pub mod Digits
 pub mod Fields
 -- Held: the cells that hold a vertex, counted.
 pub mod Held
+-- Longest: how long the lines of a mesh can be.
+pub mod Longest

@@ -38,16 +38,28 @@ pub fn rank_of(v: u32, hexes: &[u32], quads: &[u32], segments: &[u32], points: &
 {
     let p = count_holding(v, 1, points);
     if p != 0 {
-        return Ranked { rank: 0, valence: p };
+        return Ranked {
+            rank: 0,
+            valence: p,
+        };
     }
     let s = count_holding(v, 2, segments);
     if s != 0 {
-        return Ranked { rank: 1, valence: s };
+        return Ranked {
+            rank: 1,
+            valence: s,
+        };
     }
     let q = count_holding(v, 4, quads);
     if q != 0 {
-        return Ranked { rank: 2, valence: q };
+        return Ranked {
+            rank: 2,
+            valence: q,
+        };
     }
     let h = count_holding(v, 8, hexes);
-    Ranked { rank: 3, valence: h }
+    Ranked {
+        rank: 3,
+        valence: h,
+    }
 }
