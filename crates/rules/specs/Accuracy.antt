@@ -9,7 +9,7 @@ use lib.Signed.{ltZ}
 use Rattle.rules.specs.Lists.{Each, concatMap}
 use Rattle.rules.specs.Means.{Draw, Mean, Round, meanOf, coordinate, total, rounded, remainder}
 
--- ---- the written coordinates of one axis: each mean is rounded
+-- ---- the written coordinates of one axis: each mean is rounded. They are those of `refined` (law `refined-written` of accuracy).
 
 unfoldable pub written : List Round → List ℤ → List ℤ
 written [] xs = xs
@@ -53,7 +53,7 @@ feeding (r ∷ past) v =
 abbrev pub left : List ℤ → Division → ℕ
 left xs d = remainder (written (d .past) xs) (d .mean)
 
--- "no division left a remainder on that axis, at that vertex or at any earlier vertex feeding it"
+-- no division left a remainder on that axis, at that vertex or at any earlier vertex feeding it
 abbrev pub NoRemainder : List Round → List ℤ → ℕ → Type 0
 NoRemainder rs xs v = Each (λ (d : Division). left xs d ≡ 0) (feeding rs v)
 

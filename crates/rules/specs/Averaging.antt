@@ -24,7 +24,8 @@ unfoldable pub orElse : ℕ → List (List ℕ) → Counted → Counted
 orElse d [] higher = higher
 orElse d (x ∷ xs) higher = record { rank = d; cells = x ∷ xs }
 
--- "the rank of a vertex is the lowest dimension (point 0, segment 1, quad 2, hex 3) of a cell that holds it"
+-- "the rank of a vertex is the lowest dimension (point 0, segment 1, quad 2, hex 3) of a cell that holds it". A vertex in no
+-- cell gets rank 3 and valence 0; check 8 excludes it.
 unfoldable pub counted : Topology → ℕ → Counted
 counted t v =
     orElse (dimension point) (holding v (t .points))

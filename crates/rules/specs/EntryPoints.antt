@@ -1,7 +1,7 @@
 -- Document 01, 'Lent memory' and 'Refused meshes and files': for refining, the irregular count and the millimetre report, the first refusal
 -- in order, the whole answer, and what lent memory holds on return.
 use mathlib.Core.Bool.{Bool, not, _||_}
-use mathlib.Core.List.{List, [], _∷_}
+use mathlib.Core.List.{List}
 use Prim.Native.Nat.{ℕ, zero, suc, _*_, _^_}
 use lib.ListN.{length, replicate}
 use lib.IntN.{ℤ, pos, natAbs}
@@ -16,7 +16,7 @@ use Rattle.rules.specs.declared.MillimetresAnswer.{MillimetresAnswer}
 use Rattle.rules.specs.Lists.{keep, upFrom, overwritten}
 use Rattle.rules.specs.Mesh.{Mesh, Topology, topology}
 use Rattle.rules.specs.Averaging.{rank, valence, refined}
-use Rattle.rules.specs.Counts.{finishedCounts, noCounts, fewer}
+use Rattle.rules.specs.Counts.{countsOf, finishedCounts, noCounts, fewer}
 use Rattle.rules.specs.Refusals.{check, outside, meshChecks, tooManyRounds, tooLarge, strays}
 
 -- ---- answers: "Every refusal returns its number and zero counts (zeros in place of any other numbers)"
@@ -48,7 +48,7 @@ resultTables r old new = record {
   points = resultBuffer r (old .points) (new .points);
 }
 
--- "leaves all working memory zero": what n working numbers hold on return
+-- "leaves all working memory zero": what working numbers hold on return
 abbrev pub cleared : List ℕ → List ℕ
 cleared old = replicate (length old) 0
 
@@ -88,13 +88,20 @@ refiningRefusal m rounds lent =
     (check (shortForRefining lent (finishedCounts rounds t)) 11
     (check (strays rounds m) 12 0))))
 
+-- the memory that slices lend
+abbrev pub lentBy : Mesh → Mesh → List ℕ → List ℕ → Lent
+lentBy output working words longs =
+    record { output = countsOf output; working = countsOf working; words = length words; longs = length longs }
+
 -- "Refining and reading answer with the five counts"
-unfoldable pub refiningAnswer : Mesh → ℕ → Lent → CountsAnswer
-refiningAnswer m rounds lent = countsAnswer (refiningRefusal m rounds lent) (finishedCounts rounds (topology m))
+unfoldable pub refiningAnswer : Mesh → ℕ → Mesh → Mesh → List ℕ → List ℕ → CountsAnswer
+refiningAnswer m rounds output working words longs =
+    countsAnswer (refiningRefusal m rounds (lentBy output working words longs)) (finishedCounts rounds (topology m))
 
 -- "After acceptance the output's used part holds the mesh and the working memory is all zero."
-unfoldable pub refiningOutput : Mesh → ℕ → Lent → Mesh → Mesh
-refiningOutput m rounds lent output = resultTables (refiningRefusal m rounds lent) output (refined rounds m)
+unfoldable pub refiningOutput : Mesh → ℕ → Mesh → Mesh → List ℕ → List ℕ → Mesh
+refiningOutput m rounds output working words longs =
+    resultTables (refiningRefusal m rounds (lentBy output working words longs)) output (refined rounds m)
 
 -- ---- the irregular count
 
@@ -105,7 +112,7 @@ irregular t v = not (eqb (valence t v) (2 ^ rank t v))
 unfoldable pub irregularCount : Topology → ℕ
 irregularCount t = length (keep (irregular t) (upFrom 0 (t .vertexCount)))
 
--- "The irregular count checks 1 to 8."
+-- "The irregular count checks 1 to 8." It takes working 32-bit numbers too: "their length alters no result, and they end all zero".
 unfoldable pub irregularAnswer : Mesh → CountAnswer
 irregularAnswer m = countAnswer (meshChecks m 0) (irregularCount (topology m))
 

@@ -6,7 +6,7 @@ use lib.ListN.{length, getD, drop}
 use lib.IntN.{ℤ, pos, negsuc}
 use lib.Dec.{ltb, eqb}
 use Rattle.rules.specs.declared.Counts.{Counts}
-use Rattle.rules.specs.Lists.{concatMap, cut, upFrom}
+use Rattle.rules.specs.Lists.{concatMap, upFrom}
 use Rattle.rules.specs.Mesh.{Mesh, Topology, topology}
 use Rattle.rules.specs.Averaging.{rank, valence, refined}
 use Rattle.rules.specs.Counts.{countsOf}

@@ -17,7 +17,7 @@ module _ {A : Type 0} where
   keep p [] = []
   keep p (x ∷ xs) = let r = keep p xs in cond (p x) (x ∷ r) r
 
-  -- some element stands again behind itself; `equal` is the test of equality
+  -- some element occurs twice; `equal` is the test of equality
   unfoldable pub repeats : (A → A → Bool) → List A → Bool
   repeats equal [] = false
   repeats equal (x ∷ xs) = let r = repeats equal xs in any (equal x) xs || r
@@ -37,7 +37,7 @@ module _ {A : Type 0} where
   entries k zero xs = []
   entries k (suc n) xs = take k xs ∷ entries k n (drop k xs)
 
-  -- the entries of a flat table
+  -- the entries of a flat table; a partial one at its end is left out
   unfoldable pub cut : ℕ → List A → List (List A)
   cut k xs = entries k (length xs / k) xs
 

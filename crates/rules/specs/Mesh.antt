@@ -24,7 +24,7 @@ mesh xs hs qs ss ps = record { vertices = xs; hexes = hs; quads = qs; segments =
 pub data Kind : Type 0 where
   hex quad segment point : Kind
 
--- in the order in which a mesh is walked: "walking hexes, then quads, then segments"; a point has neither edges nor faces
+-- "Cells may meet in any number at an edge or face [..]. A quad or segment need not lie on a hex." In the order in which a mesh is walked: "walking hexes, then quads, then segments"; a point has neither edges nor faces
 abbrev pub kinds : List Kind
 kinds = hex ∷ quad ∷ segment ∷ point ∷ []
 
@@ -77,7 +77,8 @@ meshOf xs t = record {
   points = concat (t .points);
 }
 
--- ---- the parts of a cell, by the places of their corners in it
+-- ---- the parts of a cell, by the places of their corners in it: "Quad corners go round. Hex corners 0..3 go round the bottom and corner
+-- i+4 is above corner i."
 
 -- "Edges of a hex, in order: 01 12 23 30 45 56 67 74 04 15 26 37."
 abbrev pub hexEdges : List (List ℕ)

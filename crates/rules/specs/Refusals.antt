@@ -1,7 +1,7 @@
 -- Document 01, 'Refused meshes and files': the conditions 1 to 12, each "over the whole mesh". A condition is true where its refusal is given.
 -- 13 to 16 concern the stored form and stand there.
 use mathlib.Core.Bool.{Bool, true, false, not, _&&_, _||_}
-use mathlib.Core.List.{List, [], _∷_, _++_, map}
+use mathlib.Core.List.{List, map}
 use Prim.Native.Nat.{ℕ, zero, suc, _%_}
 use lib.ListN.{length}
 use lib.IntN.{ℤ, pos, negsuc}
@@ -74,17 +74,17 @@ mismatchedFace t = let fs = met t 2 in any (λ (f : List ℕ). any (mismatched f
 unfoldable pub isolatedVertex : Topology → Bool
 isolatedVertex t = any (λ (v : ℕ). not (any (λ (κ : Kind). any (has v) (cellsOf t κ)) kinds)) (upFrom 0 (t .vertexCount))
 
--- ---- 9, "too many rounds": "more than 8"
+-- ---- 9, document 01: too many rounds. "more than 8"
 
 abbrev pub tooManyRounds : ℕ → Bool
 tooManyRounds rounds = ltb 8 rounds
 
--- ---- 10, "too large": "the finished counts pass the ranges"
+-- ---- 10, document 01: too large. "the finished counts pass the ranges"
 
 unfoldable pub tooLarge : ℕ → Topology → Bool
 tooLarge rounds t = outOfRange (finishedCounts rounds t)
 
--- ---- 11, "short buffer": "any lent output or working buffer is too short". Each entry point says which buffers it is lent.
+-- ---- 11, document 01: short buffer. "any lent output or working buffer is too short". Each entry point says which buffers it is lent.
 
 -- ---- 12, document 01: strayed. "a round leaves a coordinate out of range"
 

@@ -33,12 +33,16 @@ cube qs = mesh (square ++ square8) (upFrom 0 8) qs [] []
 unfoldable pub sides : List ℕ
 sides = 0 ∷ 1 ∷ 2 ∷ 3 ∷ 4 ∷ 5 ∷ 6 ∷ 7 ∷ 0 ∷ 1 ∷ 5 ∷ 4 ∷ 1 ∷ 2 ∷ 6 ∷ 5 ∷ 2 ∷ 3 ∷ 7 ∷ 6 ∷ 3 ∷ 0 ∷ 4 ∷ 7 ∷ []
 
--- P12: "the 3 by 3 grid of 000, section 3.2 (4 quads, 8 boundary segments, 4 points)"
+-- P12: "the 3 by 3 grid of 000, section 3.2 (4 quads, 8 boundary segments, 4 points)", in 000's order, counted from 0
 unfoldable pub grid : Mesh
 grid =
-    mesh (line (map pos (upFrom 0 9))) []
-    (0 ∷ 1 ∷ 4 ∷ 3 ∷ 1 ∷ 2 ∷ 5 ∷ 4 ∷ 3 ∷ 4 ∷ 7 ∷ 6 ∷ 4 ∷ 5 ∷ 8 ∷ 7 ∷ [])
-    (0 ∷ 1 ∷ 1 ∷ 2 ∷ 2 ∷ 5 ∷ 5 ∷ 8 ∷ 8 ∷ 7 ∷ 7 ∷ 6 ∷ 6 ∷ 3 ∷ 3 ∷ 0 ∷ [])
+    mesh
+    (pos 0 ∷ pos 0 ∷ pos 0 ∷ pos 8 ∷ pos 0 ∷ pos 0 ∷ pos 16 ∷ pos 0 ∷ pos 0
+    ∷ pos 0 ∷ pos 8 ∷ pos 0 ∷ pos 8 ∷ pos 8 ∷ pos 0 ∷ pos 16 ∷ pos 8 ∷ pos 0
+    ∷ pos 0 ∷ pos 16 ∷ pos 0 ∷ pos 8 ∷ pos 16 ∷ pos 0 ∷ pos 16 ∷ pos 16 ∷ pos 0 ∷ [])
+    []
+    (0 ∷ 1 ∷ 4 ∷ 3 ∷ 3 ∷ 4 ∷ 7 ∷ 6 ∷ 1 ∷ 2 ∷ 5 ∷ 4 ∷ 4 ∷ 5 ∷ 8 ∷ 7 ∷ [])
+    (0 ∷ 3 ∷ 3 ∷ 6 ∷ 0 ∷ 1 ∷ 1 ∷ 2 ∷ 2 ∷ 5 ∷ 5 ∷ 8 ∷ 6 ∷ 7 ∷ 7 ∷ 8 ∷ [])
     (0 ∷ 2 ∷ 6 ∷ 8 ∷ [])
 
 -- n vertices at one place, in no cell

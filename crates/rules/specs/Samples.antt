@@ -12,7 +12,7 @@ use Rattle.rules.specs.Mesh.{Mesh, mesh, topology}
 use Rattle.rules.specs.Means.{Round, meanOf, remainder}
 use Rattle.rules.specs.Averaging.{rank, valence, axis, refined, roundsOf}
 use Rattle.rules.specs.Accuracy.{written, exact, exactDivisor, Division, feeding}
-use Rattle.rules.specs.Counts.{countsOf, finishedCounts}
+use Rattle.rules.specs.Counts.{countsOf, finishedCounts, noCounts}
 use Rattle.rules.specs.EntryPoints.{refiningRefusal, irregularCount, inMillimetres}
 use Rattle.rules.specs.StoredForm.{indexWidth, storedForm, storedMesh, readingRefusal}
 use Rattle.rules.specs.Viewer.{fixedCounts, fixedLent, viewerAnswer}
@@ -32,8 +32,8 @@ pub data Claim : Type 0 where
   valences : List ℕ → Claim
   -- the exact coordinates on axis 1, each times n
   exactly : ℕ → List ℤ → Claim
-  -- in the last round, the division of vertex v on axis 1 leaves a remainder of a divisor
-  division : ℕ → ℕ → ℕ → Claim
+  -- in the last round, the division of vertex v on axis a + 1 leaves a remainder of a divisor
+  division : ℕ → ℕ → ℕ → ℕ → Claim
   -- the vertices whose divisions feed vertex v, its own first, by the rounds back from the last
   fedBy : ℕ → List ℕ → Claim
   -- the irregular count
@@ -51,8 +51,8 @@ pub data Claim : Type 0 where
   millimetres : ℤ → Float → Claim
   -- refining, with the listing program's memory, is refused with this number; 0 is no refusal
   refused : ℕ → Claim
-  -- reading these bytes is refused with this number
-  unread : List ℕ → ℕ → Claim
+  -- reading these bytes into tables of the given counts is refused with this number
+  unread : List ℕ → Counts → ℕ → Claim
 
 pub record Row : Type 0 where
   pub mesh : Mesh
@@ -76,7 +76,7 @@ Says m k f (ranks rs) = let t = topology f in map (rank t) (upFrom 0 (t .vertexC
 Says m k f (valences vs) = let t = topology f in map (valence t) (upFrom 0 (t .vertexCount)) ≡ vs
 Says m k f (exactly n xs) =
     map (λ (e : ℤ). pos n *ℤ e) (exact (roundsOf k m) (axis 0 (m .vertices))) ≡ map (λ (x : ℤ). pos (exactDivisor (roundsOf k m)) *ℤ x) xs
-Says m k f (division v r d) = lastDivision (roundsOf k m) (axis 0 (m .vertices)) v ≡ r ∷ d ∷ []
+Says m k f (division a v r d) = lastDivision (roundsOf k m) (axis a (m .vertices)) v ≡ r ∷ d ∷ []
 Says m k f (fedBy v us) = map (λ (d : Division). d .vertex) (feeding (roundsOf k m) v) ≡ us
 Says m k f (irregulars n) = irregularCount (topology f) ≡ n
 Says m k f (width w) = indexWidth (countsOf f) ≡ w
@@ -86,7 +86,7 @@ Says m k f (lists bs) = listing (k ∷ storedForm m) ≡ bs
 Says m k f (answers room z) = viewerAnswer (storedForm m) k (replicate room 0) ≡ z
 Says m k f (millimetres z x) = inMillimetres z ≡ x
 Says m k f (refused n) = refiningRefusal m k fixedLent ≡ n
-Says m k f (unread bs n) = readingRefusal bs fixedCounts ≡ n
+Says m k f (unread bs room n) = readingRefusal bs room ≡ n
 
 abbrev pub Holds : Row → Type 0
 Holds r = Says (r .mesh) (r .rounds) (refined (r .rounds) (r .mesh)) (r .claim)
@@ -106,6 +106,11 @@ rows =
     ∷ row bar 0 readBack
     ∷ row bar 1 (lists (109 ∷ 101 ∷ 115 ∷ 104 ∷ 32 ∷ 51 ∷ 32 ∷ 48 ∷ 32 ∷ 48 ∷ 32 ∷ 50 ∷ 32 ∷ 48 ∷ 10 ∷ 118 ∷ 32 ∷ 48 ∷ 32 ∷ 50 ∷ 32 ∷ 48 ∷ 32 ∷ 48 ∷ 32 ∷ 49 ∷ 32 ∷ 49 ∷ 10 ∷ 118 ∷ 32 ∷ 49 ∷ 32 ∷ 54 ∷ 32 ∷ 48 ∷ 32 ∷ 48 ∷ 32 ∷ 49 ∷ 32 ∷ 49 ∷ 10 ∷ 118 ∷ 32 ∷ 50 ∷ 32 ∷ 52 ∷ 32 ∷ 48 ∷ 32 ∷ 48 ∷ 32 ∷ 49 ∷ 32 ∷ 50 ∷ 10 ∷ 115 ∷ 32 ∷ 48 ∷ 32 ∷ 50 ∷ 10 ∷ 115 ∷ 32 ∷ 50 ∷ 32 ∷ 49 ∷ 10 ∷ []))
     ∷ row bar 0 (irregulars 2)
+    -- two digits, three digits and a minus sign; a refusal
+    ∷ row (mesh (negsuc 11 ∷ pos 105 ∷ pos 0 ∷ []) [] [] [] (0 ∷ [])) 0 (lists (109 ∷ 101 ∷ 115 ∷ 104 ∷ 32 ∷ 49 ∷ 32 ∷ 48 ∷ 32 ∷ 48 ∷ 32 ∷ 48 ∷ 32 ∷ 49 ∷ 10 ∷ 118 ∷ 32 ∷ 48 ∷ 32 ∷ 45 ∷ 49 ∷ 50 ∷ 32 ∷ 49 ∷ 48 ∷ 53 ∷ 32 ∷ 48 ∷ 32 ∷ 48 ∷ 32 ∷ 49 ∷ 10 ∷ 112 ∷ 32 ∷ 48 ∷ 10 ∷ []))
+    ∷ row (mesh (negsuc 11 ∷ pos 105 ∷ pos 0 ∷ []) [] [] [] (0 ∷ [])) 9 (lists (114 ∷ 101 ∷ 102 ∷ 117 ∷ 115 ∷ 101 ∷ 100 ∷ 32 ∷ 57 ∷ 10 ∷ []))
+    -- 30-bit two's complement: -1 is all ones, -2^29 is a one and zeros
+    ∷ row (mesh (negsuc 0 ∷ negsuc 536_870_911 ∷ pos 0 ∷ []) [] [] [] (0 ∷ [])) 0 (bytes (16 ∷ 128 ∷ 0 ∷ 8 ∷ 0 ∷ 0 ∷ 0 ∷ 0 ∷ 0 ∷ 0 ∷ 0 ∷ 0 ∷ 15 ∷ 255 ∷ 255 ∷ 255 ∷ 240 ∷ 0 ∷ 0 ∷ 0 ∷ 0 ∷ 0 ∷ 0 ∷ 0 ∷ []))
     -- the C viewer's call: 48 bytes; a short buffer is -11; 9 rounds are -9
     ∷ row bar 1 (answers 48 (pos 48))
     ∷ row bar 1 (answers 47 (negsuc 10))
@@ -121,14 +126,14 @@ rows =
     -- P4: "P1 twice: 2, 5, 4, 3, 5; exact 2.5, 5.5, 4, 3, 5"; the second round's division at vertex 0 leaves 8 of 16
     ∷ row bar 2 (vertices 0 (line (pos 2 ∷ pos 5 ∷ pos 4 ∷ pos 3 ∷ pos 5 ∷ [])))
     ∷ row bar 2 (exactly 2 (pos 5 ∷ pos 11 ∷ pos 8 ∷ pos 6 ∷ pos 10 ∷ []))
-    ∷ row bar 2 (division 0 8 16)
+    ∷ row bar 2 (division 0 0 8 16)
     ∷ row bar 2 (fedBy 0 (0 ∷ 0 ∷ 0 ∷ 2 ∷ []))
     -- P5: "P1 with a point at each end: 0, 8, 4"; irregular count 0
     ∷ row (wire (pos 0 ∷ pos 8 ∷ []) (0 ∷ 1 ∷ []) (0 ∷ 1 ∷ [])) 1 (vertices 0 (line (pos 0 ∷ pos 8 ∷ pos 4 ∷ [])))
     ∷ row (wire (pos 0 ∷ pos 8 ∷ []) (0 ∷ 1 ∷ []) (0 ∷ 1 ∷ [])) 0 (irregulars 0)
     -- P6: "segments from 0 to 8, -8 and 16: the vertex at 0 goes to 1, remainder 16 of 48"
     ∷ row (wire (pos 0 ∷ pos 8 ∷ negsuc 7 ∷ pos 16 ∷ []) (0 ∷ 1 ∷ 0 ∷ 2 ∷ 0 ∷ 3 ∷ []) []) 1 (vertices 0 (pos 1 ∷ []))
-    ∷ row (wire (pos 0 ∷ pos 8 ∷ negsuc 7 ∷ pos 16 ∷ []) (0 ∷ 1 ∷ 0 ∷ 2 ∷ 0 ∷ 3 ∷ []) []) 1 (division 0 16 48)
+    ∷ row (wire (pos 0 ∷ pos 8 ∷ negsuc 7 ∷ pos 16 ∷ []) (0 ∷ 1 ∷ 0 ∷ 2 ∷ 0 ∷ 3 ∷ []) []) 1 (division 0 0 16 48)
     -- P7: "corner 0 goes to (2,2,0)"
     ∷ row (mesh square [] (0 ∷ 1 ∷ 2 ∷ 3 ∷ []) [] []) 1 (vertices 0 (pos 2 ∷ pos 2 ∷ pos 0 ∷ []))
     -- P8: "27 vertices, 8 hexes; corner 0 at (2,2,2), midpoint of 01 at (4,2,2)"
@@ -165,7 +170,8 @@ rows =
     ∷ row hub 1 (counts 57 24 0 0 0)
     ∷ row hub 1 (vertices 0 (pos 0 ∷ negsuc 0 ∷ pos 2 ∷ pos 6 ∷ pos 0 ∷ pos 2 ∷ pos 4 ∷ pos 5 ∷ pos 2 ∷ []))
     ∷ row hub 1 (vertices 22 (pos 0 ∷ negsuc 0 ∷ pos 4 ∷ []))
-    ∷ row hub 1 (division 0 16 192)
+    ∷ row hub 1 (division 0 0 16 192)
+    ∷ row hub 1 (division 1 0 176 192)
     ∷ row hub 0 (valences (3 ∷ 2 ∷ 1 ∷ 2 ∷ 1 ∷ 2 ∷ 1 ∷ 3 ∷ 2 ∷ 1 ∷ 2 ∷ 1 ∷ 2 ∷ 1 ∷ []))
     ∷ row hub 0 (irregulars 14)
     -- a hex, a quad, segments and a point together
@@ -198,14 +204,18 @@ rows =
     ∷ row (cube []) 6 (refused 10)
     ∷ row (cube []) 4 (refused 11)
     -- reading: 13, 14, 2, 15, 13 again, 16, 4, and none
-    ∷ row bar 0 (unread (take 12 (barBytes 16 32)) 13)
-    ∷ row bar 0 (unread (barBytes 32 32) 14)
-    ∷ row bar 0 (unread (16 ∷ 128 ∷ replicate 11 0) 2)
-    ∷ row bar 0 (unread (barBytes 17 32) 15)
-    ∷ row bar 0 (unread (barBytes 16 33 ++ (0 ∷ [])) 13)
-    ∷ row bar 0 (unread (barBytes 16 33) 16)
-    ∷ row bar 0 (unread (storedForm (wire (pos 0 ∷ pos 1 ∷ pos 2 ∷ []) [] (3 ∷ []))) 4)
-    ∷ row bar 0 (unread (barBytes 16 32) 0)
+    ∷ row bar 0 (unread (take 12 (barBytes 16 32)) fixedCounts 13)
+    ∷ row bar 0 (unread (barBytes 32 32) fixedCounts 14)
+    ∷ row bar 0 (unread (16 ∷ 128 ∷ replicate 11 0) fixedCounts 2)
+    ∷ row bar 0 (unread (barBytes 17 32) fixedCounts 15)
+    ∷ row bar 0 (unread (barBytes 16 33 ++ (0 ∷ [])) fixedCounts 13)
+    ∷ row bar 0 (unread (barBytes 16 33) fixedCounts 16)
+    ∷ row bar 0 (unread (storedForm (wire (pos 0 ∷ pos 1 ∷ pos 2 ∷ []) [] (3 ∷ []))) fixedCounts 4)
+    ∷ row bar 0 (unread (barBytes 16 32) fixedCounts 0)
+    -- 2 before 15, 4 before 11, and 11
+    ∷ row bar 0 (unread (17 ∷ replicate 12 0) fixedCounts 2)
+    ∷ row bar 0 (unread (storedForm (wire (pos 0 ∷ pos 1 ∷ pos 2 ∷ []) [] (3 ∷ []))) noCounts 4)
+    ∷ row bar 0 (unread (barBytes 16 32) noCounts 11)
     ∷ []
 
 -- the claim: each row holds

@@ -1,5 +1,5 @@
 -- Document 01, 'One round', Split: the edges and faces of a mesh, the numbers of the fine vertices, and the children of a cell.
-use mathlib.Core.List.{List, [], _∷_, _++_, map}
+use mathlib.Core.List.{List, _++_, map}
 use Prim.Native.Nat.{ℕ}
 use lib.ListN.{length, getD}
 use Rattle.rules.specs.Lists.{concatMap, Key, keyOf, indexOf, distinct}
@@ -17,7 +17,7 @@ keyAt cell ps = keyOf (cornersAt cell ps)
 unfoldable pub met : Topology → ℕ → List (List ℕ)
 met t d = concatMap (λ (κ : Kind). concatMap (λ (cell : List ℕ). map (cornersAt cell) (places κ d)) (cellsOf t κ)) kinds
 
--- The edges (d = 1), the faces (2) and the hexes (3) of a mesh: "in the order first met".
+-- The edges (d = 1), the faces (2) and the hexes (3) of a mesh: "in the order first met". Each hex is met once where check 6 passes.
 unfoldable pub distinctParts : Topology → ℕ → List Key
 distinctParts t d = distinct (map keyOf (met t d))
 

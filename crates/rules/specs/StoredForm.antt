@@ -36,7 +36,7 @@ formNumber = 1
 abbrev pub field : ℕ → ℕ → Field
 field k v = record { width = k; value = v }
 
--- a table of which each entry takes w bits
+-- a table of which each number takes w bits
 unfoldable pub tableFields : ℕ → List ℕ → List Field
 tableFields w table = map (field w) table
 
@@ -122,22 +122,22 @@ storedMesh s =
 
 -- ---- 13 to 16
 
--- 13, "wrong length": "the file is under 13 bytes, or not the length its header calls for"
+-- 13, document 01: wrong length. "the file is under 13 bytes, or not the length its header calls for"
 unfoldable pub headerCut : List ℕ → Bool
 headerCut s = ltb (length s) 13
 
 unfoldable pub wrongLength : List ℕ → Bool
 wrongLength s = not (eqb (length s) (bytesFor (layout (headerOf s) .end)))
 
--- 14, "unknown form": "the form number is not 1"
+-- 14, document 01: unknown form. "the form number is not 1"
 unfoldable pub unknownForm : List ℕ → Bool
 unknownForm s = not (eqb (headerOf s .form) formNumber)
 
--- 15, "wrong width": "w is not the width above"
+-- 15, document 01: wrong width. "w is not the width above"
 unfoldable pub wrongWidth : List ℕ → Bool
 wrongWidth s = not (eqb (headerOf s .width) (indexWidth (headerOf s .counts)))
 
--- 16, "spare bits": "a filling bit is 1"
+-- 16, document 01: spare bits. "a filling bit is 1"
 unfoldable pub spareBits : List ℕ → Bool
 spareBits s = not (eqb (number s % 2 ^ filling (layout (headerOf s) .end)) 0)
 
