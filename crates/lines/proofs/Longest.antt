@@ -13,7 +13,7 @@ use Rattle.rules.specs.Mesh.{Mesh, Topology, topology}
 use Rattle.rules.specs.Averaging.{holding, Counted, orElse, counted, rank, valence}
 use Rattle.rules.specs.Counts.{countsOf}
 use Rattle.rules.specs.Refusals.{outside, coordinateOutOfRange}
-use Rattle.rules.specs.Listing.{decimal, signedDecimal, fields, line, meshLine, vertexLine, cellLines, meshLines}
+use Rattle.rules.specs.Listing.{decimal, signedDecimal, fields, line, meshLine, vertexLine, cellLines, meshLines, refusedLine}
 use Rattle.lists.specs.Membership.{In}
 use Rattle.lists.proofs.Tests.{none-at}
 use Rattle.lists.proofs.Membership.{in-getD, length-keep, in-upFrom, length-upFrom}
@@ -44,6 +44,10 @@ fields-length (f ∷ fs) h = omega (arith, length-append f (fields fs), h .0 .by
 line-length : (word : List ℕ) (fs : List (List ℕ)) → Each Short fs → length (line word fs) ≤ length word + (11 * length fs + 1)
 unfolding line
 line-length word fs h = omega (arith, length-append word (fields fs), fields-length fs h)
+
+pub refused-length : (n : ℕ) → n < 2 ^ 32 → length (refusedLine n) ≤ 19
+unfolding refusedLine
+refused-length n h = line-length (114 ∷ 101 ∷ 102 ∷ 117 ∷ 115 ∷ 101 ∷ 100 ∷ []) (decimal n ∷ []) (short-decimal n (omega arith), tt)
 
 -- the runs of a list, each of at most b bytes
 runs-length : {A : Type 0} (f : A → List ℕ) (b : ℕ) (xs : List A) → ((x : A) → In x xs → length (f x) ≤ b) → length (concatMap f xs) ≤ b * length xs

@@ -8,7 +8,7 @@ ghost use Prim.Native.Nat.{_/_, _<_, _≤_};
 ghost use lib.ListN.{length};
 ghost use Rattle.rules.specs.Lists.{concatMap, cut, upFrom};
 ghost use Rattle.rules.specs.Mesh.{mesh, topology};
-ghost use Rattle.rules.specs.Listing.{decimal, signedDecimal, fields, line, meshLine, vertexLine, cellLines, meshLines};
+ghost use Rattle.rules.specs.Listing.{decimal, signedDecimal, fields, line, meshLine, vertexLine, cellLines, meshLines, refusedLine};
 ghost use Rattle.lines.specs.Appended.{Room, Appended};
 ghost use Rattle.lines.specs.Fitting.{Fitting, outputSize};
 
@@ -179,4 +179,14 @@ pub fn mesh_lines(
     let a = append_mesh_line(counts, out, 0);
     let b = append_vertex_lines(xs, hexes, quads, segments, points, out, a);
     append_cells(hexes, quads, segments, points, out, b)
+}
+
+// The one line of a refusal, from the front of the buffer on: a word of 7 bytes, a space, 10 digits at most, a line feed.
+pub fn refused_line(number: u32, out: &mut [u8]) -> usize
+    requires { ⌜ 19 ≤ length (now out) ⌝ }
+    ensures { λ r. ⌜ Appended (now (out .entry)) (now (out .exit)) 0 r (refusedLine number) ⌝ }
+{
+    let numbers = [number];
+    let next = append::append_word(b"refused", out, 0);
+    append_fields(&numbers, out, next)
 }
