@@ -1,17 +1,19 @@
 -- The checks by table: what a test over all kinds of cells says of each table. Assumes nothing.
 use mathlib.Core.Path.{_≡_, refl, sym, ap, _∙_}
 use mathlib.Core.Bool.{Bool, true, false, not, _||_}
-use mathlib.Core.List.{List}
+use mathlib.Core.List.{List, [], map}
 use Prim.Native.Nat.{ℕ, _/_, _%_}
 use native.Mathlib.Omega.{arith}
 use lib.ListN.{length}
-use lib.Dec.{leb, eqb}
+use lib.Dec.{leb, eqb, lit<}
 use borrow.Author.Tests.{not-false, eqb-true}
-use Rattle.rules.specs.Lists.{any, repeats, cut}
-use Rattle.rules.specs.Mesh.{Mesh, Kind, hex, quad, segment, point, kinds, corners, topology, cellsOf}
-use Rattle.rules.specs.Refusals.{partialEntry, cornerOutOfRange, repeatedCorner}
-use Rattle.lists.proofs.Tests.{or-false, or-neither}
+use Rattle.rules.specs.Lists.{any, repeats, entries, cut, upFrom, has, keyOf, same}
+use Rattle.rules.specs.Mesh.{Mesh, Kind, hex, quad, segment, point, kinds, corners, mesh, topology, cellsOf}
+use Rattle.rules.specs.Refusals.{partialEntry, cornerOutOfRange, repeatedCorner, duplicateCell, mismatchedFace, isolatedVertex}
+use Rattle.lists.proofs.Tests.{or-false, or-neither, any-same}
 use Rattle.lists.proofs.Tables.{any-cut}
+use Rattle.checks.specs.Held.{isolatedIn}
+use Rattle.checks.proofs.WalkLaws.{met-mesh}
 
 -- the flat table of a kind
 abbrev pub tableOf : Mesh → Kind → List ℕ
@@ -66,3 +68,48 @@ corner-tables m h =
 pub repeat-tables : (m : Mesh) → repeatedCorner (topology m) ≡ eachKind (λ (κ : Kind). any (repeats eqb) (cut (corners κ) (tableOf m κ)))
 unfolding repeatedCorner topology
 repeat-tables m = any-kinds (λ (κ : Kind). any (repeats eqb) (cellsOf (topology m) κ))
+
+-- a test that fails for all kinds fails for each
+pub no-kind : (p : Kind → Bool) → eachKind p ≡ false → (κ : Kind) → p κ ≡ false
+no-kind p h κ =
+    let a = or-neither (p hex) (p quad || (p segment || p point)) h in
+    let b = or-neither (p quad) (p segment || p point) (a .1) in
+    let c = or-neither (p segment) (p point) (b .1) in
+    go κ (a .0) (b .0) (c .0) (c .1)
+  where
+    go : (κ : Kind) → p hex ≡ false → p quad ≡ false → p segment ≡ false → p point ≡ false → p κ ≡ false
+    go hex a b c d = a
+    go quad a b c d = b
+    go segment a b c d = c
+    go point a b c d = d
+
+pub no-repeats : (m : Mesh) → repeatedCorner (topology m) ≡ false → (κ : Kind) → any (repeats eqb) (cut (corners κ) (tableOf m κ)) ≡ false
+no-repeats m h κ = no-kind (λ (κ : Kind). any (repeats eqb) (cut (corners κ) (tableOf m κ))) (sym (repeat-tables m) ∙ h) κ
+
+pub no-corners : (m : Mesh) → partialEntry m ≡ false → cornerOutOfRange (topology m) ≡ false → (κ : Kind) → any (leb (length (m .vertices) / 3)) (tableOf m κ) ≡ false
+no-corners m w h κ = no-kind (λ (κ : Kind). any (leb (length (m .vertices) / 3)) (tableOf m κ)) (sym (corner-tables m w) ∙ h) κ
+
+-- 6, by table
+pub duplicate-tables : (m : Mesh) → duplicateCell (topology m) ≡ eachKind (λ (κ : Kind). repeats same (map keyOf (cut (corners κ) (tableOf m κ))))
+unfolding duplicateCell topology
+duplicate-tables m = any-kinds (λ (κ : Kind). repeats same (map keyOf (cellsOf (topology m) κ)))
+
+-- 5 and 7 look at neither positions nor points, and 7 at no segment's faces
+pub fewer-tables : (m : Mesh) → repeatedCorner (topology m) ≡ false → repeatedCorner (topology (mesh [] (m .hexes) (m .quads) (m .segments) [])) ≡ false
+unfolding cut any entries
+fewer-tables m h =
+    repeat-tables (mesh [] (m .hexes) (m .quads) (m .segments) [])
+    ∙ rw (no-repeats m h hex, no-repeats m h quad, no-repeats m h segment)
+
+pub mismatched-tables : (m : Mesh) → mismatchedFace (topology m) ≡ mismatchedFace (topology (mesh [] (m .hexes) (m .quads) (m .segments) []))
+unfolding mismatchedFace
+mismatched-tables m = rw (met-mesh 2 (lit< tt) m)
+
+-- 8, by table
+pub isolated-tables : (m : Mesh) → partialEntry m ≡ false → isolatedVertex (topology m) ≡ any (isolatedIn (m .hexes) (m .quads) (m .segments) (m .points)) (upFrom 0 (length (m .vertices) / 3))
+unfolding isolatedVertex topology has
+isolated-tables m h =
+    any-same (λ (v : ℕ). not (any (λ (κ : Kind). any (has v) (cellsOf (topology m) κ)) kinds)) (isolatedIn (m .hexes) (m .quads) (m .segments) (m .points)) (upFrom 0 (length (m .vertices) / 3))
+    (λ v i.
+    let w = whole-tables m h in
+    rw (any-kinds (λ (κ : Kind). any (has v) (cellsOf (topology m) κ)), any-cut (eqb v) 8 (m .hexes) (w hex), any-cut (eqb v) 4 (m .quads) (w quad), any-cut (eqb v) 2 (m .segments) (w segment), any-cut (eqb v) 1 (m .points) (w point)))

@@ -7,3 +7,21 @@ pub mod ByKind
 pub mod Slices
 -- WalkLaws: the walk of a mesh by number.
 pub mod WalkLaws
+-- CornerSets: when two cells have one corner set.
+pub mod CornerSets
+-- PlainParts: no edge and no face names a corner twice.
+pub mod PlainParts
+-- Counting: a loop that counts distinct keys.
+pub mod Counting
+-- Mismatch: check 7 by number.
+pub mod Mismatch
+-- Marking: marks of corners.
+pub mod Marking
+-- FaceTableLaws: the table of faces.
+pub mod FaceTableLaws
+-- FaceWalk: the faces of a mesh, met one after the other.
+pub mod FaceWalk
+-- Duplicates: check 6 and the sizes by counts of distinct keys.
+pub mod Duplicates
+-- Passed: what the first checks let through.
+pub mod Passed

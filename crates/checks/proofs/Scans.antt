@@ -3,11 +3,13 @@ use mathlib.Core.Path.{_≡_, refl, sym, ap, _∙_}
 use mathlib.Core.Bool.{Bool, true, false, _||_}
 use mathlib.Core.List.{List, [], _∷_}
 use Prim.Native.Nat.{ℕ, zero, suc, _+_, _<_, _≤_}
+use native.Mathlib.Nat.{zero-add}
 use native.Mathlib.Numerals.{add-one}
 use native.Mathlib.Omega.{arith}
 use lib.ListN.{length, drop, getD, drop-of-length-le}
 use lib.Seq.{drop-cons}
-use Rattle.rules.specs.Lists.{any, repeats}
+use Rattle.rules.specs.Lists.{any, repeats, upFrom}
+use Rattle.lists.proofs.Membership.{length-upFrom, getD-upFrom}
 
 module _ {A : Type 0} where
   -- f is found by going through a list: p says of an element, and of those behind it, whether the search may stop there
@@ -28,6 +30,9 @@ module _ {A : Type 0} where
     pub below : i ≤ length l
     pub rest : r ≡ f (drop i l)
 
+  pub scan-from : (f : List A → Bool) (l : List A) (i : ℕ) → i ≤ length l → Scanning f (f (drop i l)) l i
+  scan-from f l i h = record { below = h; rest = refl }
+
   pub scan-start : (f : List A → Bool) (l : List A) → Scanning f (f l) l 0
   scan-start f l = record { below = omega arith; rest = refl }
 
@@ -44,3 +49,18 @@ module _ {A : Type 0} where
 
   pub scan-end : {f : List A → Bool} {p : A → List A → Bool} → Search f p → {r : Bool} {l : List A} {i : ℕ} → Scanning f r l i → length l ≤ i → false ≡ r
   scan-end s {r} {l} {i} at h = rw (at .rest, drop-of-length-le l {i = i} h) (sym (s .at-nil))
+
+-- ---- the numbers below n
+
+module _ (p : ℕ → Bool) (n : ℕ) {r : Bool} {v : ℕ} (at : Scanning (any p) r (upFrom 0 n) v) where
+  this : v < n → getD (upFrom 0 n) v 0 ≡ v
+  this h = getD-upFrom 0 n v 0 h ∙ zero-add v
+
+  pub range-hit : v < n → p v ≡ true → true ≡ r
+  range-hit h e = scan-hit (any-search p) 0 at (rw (length-upFrom 0 n) h) (rw (this h) e)
+
+  pub range-miss : v < n → p v ≡ false → Scanning (any p) r (upFrom 0 n) (v + 1)
+  range-miss h e = scan-miss (any-search p) 0 at (rw (length-upFrom 0 n) h) (rw (this h) e)
+
+  pub range-end : n ≤ v → false ≡ r
+  range-end h = scan-end (any-search p) at (rw (length-upFrom 0 n) h)

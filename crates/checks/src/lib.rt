@@ -1,4 +1,199 @@
-// Document 01's checks 1 to 8 over a whole mesh, in order.
+// Document 01's checks 1 to 8 over a whole mesh, in order, and the sizes of a mesh that passes them.
+//
+// Rests on `numbering` (tables of keys in lent memory) and on the laws of `lists` and `soundness`. Promises: each check is an equation with
+// its test of `rules`, and the first that fails is the refusal. Checks 6 to 8 and the sizes take lent numbers. The answer never depends on
+// how many there are: where a table of keys is full, each cell or part is compared with each other one instead. They are near-linear
+// with `1 + max(V, 10 H, 6 Q, 4 S, 3 P, 7 (6 H + Q))` numbers, for V vertices, H hexes, Q quads, S segments and P points, and the sizes
+// with `1 + max(4 (12 H + 4 Q + S), 6 (6 H + Q))`; fewer are enough where cells share parts. What the lent numbers hold afterwards is left
+// free.
+use numbering::count;
+use numbering::parts::Parts;
+use numbering::parts::Tally;
+use rules::Sizes;
+ghost use mathlib.Core.Path.{_≡_};
+ghost use mathlib.Core.Bool.{false};
+ghost use mathlib.Core.List.{[], map};
+ghost use lib.Dec.{eqb};
+ghost use lib.ListN.{length};
+ghost use Rattle.rules.specs.Lists.{any, repeats, cut, keyOf, same, distinct};
+ghost use Rattle.rules.specs.Mesh.{mesh, topology};
+ghost use Rattle.rules.specs.Counts.{sizes};
+ghost use Rattle.rules.specs.Refusals.{partialEntry, countOutOfRange, cornerOutOfRange, repeatedCorner, duplicateCell, mismatchedFace, isolatedVertex, tableChecks, meshChecks};
+ghost use Rattle.numbering.specs.Parts.{partCorners, cellCorners};
+ghost use Rattle.checks.specs.Walk.{metIn};
+
+// The cells by themselves: check 5.
 pub mod cells;
+// The corner across a face's least corner.
+pub mod faces;
+// Check 7 with a table of face keys.
+pub mod hashed;
+// Check 8 with a mark for each vertex.
+pub mod marks;
+// Checks 6 to 8 and the counts of parts with no memory.
+pub mod pairwise;
+// The edges and faces by number.
 pub mod parts;
+// The tables: checks 1 to 4.
 pub mod tables;
+
+// Whether two cells of a table have one corner set; the parts are the cells themselves.
+fn has_duplicate(words: &mut [u32], of: Parts, cells: &[u32]) -> bool
+    requires { ⌜ partCorners of ≡ cellCorners of ⌝ }
+    requires { ⌜ any (repeats eqb) (cut (cellCorners of) (now cells)) ≡ false ⌝ }
+    ensures { λ r. ⌜ r ≡ repeats same (map keyOf (cut (cellCorners of) (now (cells .entry)))) ⌝ }
+{
+    let k = numbering::parts::corners_of(of);
+    let mut key = [0u32; 8];
+    let tally = count::count_table(words, of, cells, &mut key[..k]);
+    match tally {
+        Tally::Keys(n) => n != cells.len() / k,
+        Tally::Full => pairwise::has_duplicate(k, cells),
+    }
+}
+
+// 6, document 01: doubled cell.
+fn has_duplicate_cell(
+    words: &mut [u32],
+    xs: &[i32],
+    hexes: &[u32],
+    quads: &[u32],
+    segments: &[u32],
+    points: &[u32],
+) -> bool
+    requires { ⌜ repeatedCorner (topology (mesh (now xs) (now hexes) (now quads) (now segments) (now points))) ≡ false ⌝ }
+    ensures { λ r. ⌜ r ≡ duplicateCell (topology (mesh (now (xs .entry)) (now (hexes .entry)) (now (quads .entry)) (now (segments .entry)) (now (points .entry)))) ⌝ }
+{
+    has_duplicate(words, Parts::Hexes, hexes)
+        || (has_duplicate(words, Parts::Quads, quads)
+            || (has_duplicate(words, Parts::Segments, segments)
+                || has_duplicate(words, Parts::Points, points)))
+}
+
+// 7, document 01: twisted face.
+fn has_mismatched_face(words: &mut [u32], hexes: &[u32], quads: &[u32], segments: &[u32]) -> bool
+    requires { ⌜ repeatedCorner (topology (mesh [] (now hexes) (now quads) (now segments) [])) ≡ false ⌝ }
+    ensures { λ r. ⌜ r ≡ mismatchedFace (topology (mesh [] (now (hexes .entry)) (now (quads .entry)) (now (segments .entry)) [])) ⌝ }
+{
+    let found = hashed::mismatched_face(words, hexes, quads, segments);
+    match found {
+        hashed::Verdict::Fails => true,
+        hashed::Verdict::Passes => false,
+        hashed::Verdict::Unknown => pairwise::has_mismatched_face(hexes, quads, segments),
+    }
+}
+
+// 8, document 01: loose vertex.
+fn has_isolated_vertex(
+    words: &mut [u32],
+    xs: &[i32],
+    hexes: &[u32],
+    quads: &[u32],
+    segments: &[u32],
+    points: &[u32],
+) -> bool
+    requires { ⌜ partialEntry (mesh (now xs) (now hexes) (now quads) (now segments) (now points)) ≡ false ⌝ }
+    requires { ⌜ countOutOfRange (mesh (now xs) (now hexes) (now quads) (now segments) (now points)) ≡ false ⌝ }
+    requires { ⌜ cornerOutOfRange (topology (mesh (now xs) (now hexes) (now quads) (now segments) (now points))) ≡ false ⌝ }
+    ensures { λ r. ⌜ r ≡ isolatedVertex (topology (mesh (now (xs .entry)) (now (hexes .entry)) (now (quads .entry)) (now (segments .entry)) (now (points .entry)))) ⌝ }
+{
+    let n = xs.len() / 3;
+    if n <= words.len() {
+        return marks::has_isolated_vertex(&mut words[..n], hexes, quads, segments, points);
+    }
+    pairwise::has_isolated_vertex(n as u32, hexes, quads, segments, points)
+}
+
+// 5 to 8 in order, of a mesh that passes 1 to 4.
+fn cell_refusal(
+    words: &mut [u32],
+    xs: &[i32],
+    hexes: &[u32],
+    quads: &[u32],
+    segments: &[u32],
+    points: &[u32],
+) -> u32
+    requires { ⌜ tableChecks (mesh (now xs) (now hexes) (now quads) (now segments) (now points)) 0 ≡ 0 ⌝ }
+    ensures { λ r. ⌜ r ≡ meshChecks (mesh (now (xs .entry)) (now (hexes .entry)) (now (quads .entry)) (now (segments .entry)) (now (points .entry))) 0 ⌝ }
+{
+    if cells::has_repeated_corner(xs, hexes, quads, segments, points) {
+        return 5;
+    }
+    if has_duplicate_cell(words, xs, hexes, quads, segments, points) {
+        return 6;
+    }
+    if has_mismatched_face(words, hexes, quads, segments) {
+        return 7;
+    }
+    if has_isolated_vertex(words, xs, hexes, quads, segments, points) {
+        return 8;
+    }
+    0
+}
+
+// 1 to 8 in order: the number of the first check that fails, 0 where none does.
+pub fn mesh_refusal(
+    xs: &[i32],
+    hexes: &[u32],
+    quads: &[u32],
+    segments: &[u32],
+    points: &[u32],
+    words: &mut [u32],
+) -> u32
+    ensures { λ r. ⌜ r ≡ meshChecks (mesh (now (xs .entry)) (now (hexes .entry)) (now (quads .entry)) (now (segments .entry)) (now (points .entry))) 0 ⌝ }
+{
+    let refusal = tables::table_refusal(xs, hexes, quads, segments, points);
+    if refusal != 0 {
+        return refusal;
+    }
+    cell_refusal(words, xs, hexes, quads, segments, points)
+}
+
+// How many edges there are.
+fn edge_count(words: &mut [u32], hexes: &[u32], quads: &[u32], segments: &[u32]) -> usize
+    requires { ⌜ repeatedCorner (topology (mesh [] (now hexes) (now quads) (now segments) [])) ≡ false ⌝ }
+    ensures { λ r. ⌜ r ≡ length (distinct (map keyOf (metIn 1 (now (hexes .entry)) (now (quads .entry)) (now (segments .entry))))) ⌝ }
+{
+    let tally = count::count_edges(words, hexes, quads, segments);
+    match tally {
+        Tally::Keys(n) => n,
+        Tally::Full => pairwise::count_distinct(1, hexes, quads, segments),
+    }
+}
+
+// How many faces there are.
+fn face_count(words: &mut [u32], hexes: &[u32], quads: &[u32], segments: &[u32]) -> usize
+    requires { ⌜ repeatedCorner (topology (mesh [] (now hexes) (now quads) (now segments) [])) ≡ false ⌝ }
+    ensures { λ r. ⌜ r ≡ length (distinct (map keyOf (metIn 2 (now (hexes .entry)) (now (quads .entry)) (now (segments .entry))))) ⌝ }
+{
+    let tally = count::count_faces(words, hexes, quads);
+    match tally {
+        Tally::Keys(n) => n,
+        Tally::Full => pairwise::count_distinct(2, hexes, quads, segments),
+    }
+}
+
+// The sizes of a mesh whose cells name no corner twice: what its finished counts follow from.
+pub fn mesh_sizes(
+    xs: &[i32],
+    hexes: &[u32],
+    quads: &[u32],
+    segments: &[u32],
+    points: &[u32],
+    words: &mut [u32],
+) -> Sizes
+    requires { ⌜ repeatedCorner (topology (mesh (now xs) (now hexes) (now quads) (now segments) (now points))) ≡ false ⌝ }
+    ensures { λ r. ⌜ r ≡ sizes (topology (mesh (now (xs .entry)) (now (hexes .entry)) (now (quads .entry)) (now (segments .entry)) (now (points .entry)))) ⌝ }
+{
+    let edges = edge_count(words, hexes, quads, segments);
+    let faces = face_count(words, hexes, quads, segments);
+    Sizes {
+        vertices: (xs.len() / 3) as u64,
+        edges: edges as u64,
+        faces: faces as u64,
+        hexes: (hexes.len() / 8) as u64,
+        quads: (quads.len() / 4) as u64,
+        segments: (segments.len() / 2) as u64,
+        points: points.len() as u64,
+    }
+}

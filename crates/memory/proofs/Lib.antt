@@ -1,2 +1,2 @@
--- Loops: what a storing loop keeps.
-pub mod Loops
+-- Stores: runs of stores, and loops that store.
+pub mod Stores

@@ -1,5 +1,5 @@
 // Clearing a lent slice, and copying a slice to the front of another.
-// Rests on `rules` for `overwritten`. The laws of all loops are stated once, over the element type (proofs/Loops.antt).
+// Rests on `rules` for `overwritten`. The laws of all loops are stated once, over the element type (proofs/Stores.antt).
 // Promises: what the slice holds on return, by one equation.
 ghost use mathlib.Core.Path.{_≡_};
 ghost use Prim.Native.Nat.{_≤_};

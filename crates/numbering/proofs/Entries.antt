@@ -2,20 +2,21 @@
 use mathlib.Core.Path.{_≡_, refl, sym, ap, _∙_, subst}
 use mathlib.Core.Bool.{true, false}
 use mathlib.Core.Logic.{_⊎_, inl, inr, ⊎-elim}
-use mathlib.Core.List.{List, [], _∷_, _++_, append-assoc, append-nil}
+use mathlib.Core.List.{List, [], _∷_, _++_}
 use Prim.Native.Nat.{ℕ, suc, _+_, _*_, _/_, _%_, _^_, _-_, _≤_, _<_}
 use native.Mathlib.Nat.{mul-comm, mul-le-mul-left, mul-lt-mul-of-pos-right, mod-lt, div-lt-iff-lt-mul}
 use native.Mathlib.Numerals.{add-one}
 use native.Mathlib.Omega.{arith}
-use lib.ListN.{length, getD, set, take, drop, length-set, length-append, length-drop, drop-of-length-le}
-use lib.Seq.{ext-getD, take-all, drop-drop, sets, sets-eq, length-sets, getD-set-same, getD-set-other}
+use lib.ListN.{length, getD, set, drop, replicate, length-set, length-append, length-drop, length-replicate, getD-replicate, List·getD-append}
+use lib.Seq.{ext-getD, sets, length-sets, getD-set-same, getD-set-other}
 use Rattle.rules.specs.Lists.{overwritten, Key, same, indexOf, meet, meetAll}
 use Rattle.lists.specs.Membership.{In}
 use Rattle.lists.proofs.Tests.{false≢true}
 use Rattle.lists.proofs.Keys.{same-refl, same-eq, ne-same}
 use Rattle.lists.proofs.Distinct.{index-in, index-below, index-absent, index-right, meet-known, meet-absent, meetAll-append, meetAll-more}
+use Rattle.memory.proofs.Stores.{sets-other}
 use Rattle.numbering.specs.Table.{firsts, run, mix, slotOf, place, wordsFor, headAt, nextAt, entryKey, keys, Table, Met, MetAll}
-use Rattle.numbering.proofs.Firsts.{length-firsts, length-run, getD-of-run, run-kept, sets-other, run-sets}
+use Rattle.numbering.proofs.Firsts.{length-firsts, length-run, getD-of-run, run-kept, run-sets}
 use Rattle.numbering.proofs.Chains.{none-yet, Cursor, start, step, step-less, found, missing, fresh, Added, added, added-keys}
 
 -- ---- the slot
@@ -55,6 +56,16 @@ unfolding headAt
 table-empty c w room fits few z =
     record { fits = fits; few = few; used = omega arith; chains = none-yet (slotOf room) (room + 1) (entryKey c w room) (headAt w) (nextAt c w room) z }
 
+-- a slice that was prepared
+pub table-prepared : (c : ℕ) (w : List ℕ) (room : ℕ) → wordsFor c room ≤ length w → room + 1 < 2 ^ 32 → Table c (overwritten w (replicate (room + 1) 0)) room 0
+unfolding overwritten
+table-prepared c w room fits few =
+    let z : List ℕ = replicate (room + 1) 0 in
+    let n : length z ≡ room + 1 = length-replicate (room + 1) 0 in
+    let long : length (z ++ drop (length z) w) ≡ length w = length-append z (drop (length z) w) ∙ omega (arith, length-drop (length z) w) in
+    table-empty c (z ++ drop (length z) w) room (rw long fits) few
+    (λ h l. List·getD-append z (drop (length z) w) 0 h (omega arith) ∙ getD-replicate (room + 1) h 0 0 l)
+
 -- ---- a walk for k along its chain
 
 abbrev pub Walk : ℕ → List ℕ → ℕ → ℕ → Key → ℕ → Type 0
@@ -84,18 +95,6 @@ module _ {c : ℕ} {w : List ℕ} {room n : ℕ} (t : Table c w room n) (k : Key
   pub walk-end : (x : ℕ) → x ≤ 0 → Walk c w room n k x → n ≡ indexOf k (keys c w room n)
   unfolding keys
   walk-end x l v = sym (missing (entryKey c w room) k (λ e u. v .past e (omega arith) u) .1)
-
--- ---- a list whose rest, from a on, was lent and came back with ys at its front
-
-pub put-rest : (a : ℕ) (xs ys : List ℕ) → a + length ys ≤ length xs → take a xs ++ (overwritten (take (length xs - a) (drop a xs)) ys ++ drop (length xs - a) (drop a xs)) ≡ sets xs a ys
-unfolding overwritten
-put-rest a xs ys l =
-    let n = length-drop a xs in
-    let u : length (drop a xs) ≤ length xs - a = omega arith in
-    let p : take (length xs - a) (drop a xs) ≡ drop a xs = take-all (length xs - a) (drop a xs) u in
-    let q : drop (length xs - a) (drop a xs) ≡ [] = drop-of-length-le (drop a xs) u in
-    rw (p, q, append-nil (ys ++ drop (length ys) (drop a xs)), drop-drop (length ys) a xs)
-    (sym (append-assoc (take a xs) ys (drop (a + length ys) xs)) ∙ sym (sets-eq ys xs a l))
 
 -- ---- a new entry
 
@@ -143,7 +142,7 @@ module _ (w : List ℕ) (room n : ℕ) (k : Key) (t : Table (length k) w room n)
   unfolding entered
   entered-other i d h =
       getD-set-other (sets w (place (length k) room n) (getD w (slotOf room k) 0 ∷ k)) (slotOf room k) i (n + 1) 0 d
-      ∙ sets-other w (place (length k) room n) (getD w (slotOf room k) 0 ∷ k) i (inl h)
+      ∙ sets-other w (place (length k) room n) (getD w (slotOf room k) 0 ∷ k) i 0 (inl h)
 
   entered-stored : Stored (length k) w (entered w room n k) room n k
   unfolding entered
@@ -157,7 +156,7 @@ module _ (w : List ℕ) (room n : ℕ) (k : Key) (t : Table (length k) w room n)
         old = λ i l₁ l₂. entered-other i (λ p. absurd (omega arith)) l₂;
         link =
             getD-set-other (sets w (place (length k) room n) (x ∷ k)) (slotOf room k) (place (length k) room n) (n + 1) 0 (λ p. absurd (omega arith))
-            ∙ sets-other (set w (place (length k) room n) x) (suc (place (length k) room n)) k (place (length k) room n) (inl (omega arith))
+            ∙ sets-other (set w (place (length k) room n) x) (suc (place (length k) room n)) k (place (length k) room n) 0 (inl (omega arith))
             ∙ getD-set-same w (place (length k) room n) x 0 (omega arith);
         numbers =
             run-kept (sets w (place (length k) room n) (x ∷ k)) _ (place (length k) room n + 1) (length k)

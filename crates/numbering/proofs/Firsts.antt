@@ -1,15 +1,14 @@
--- Laws of the list f 0, f 1, .., f (n - 1), and of runs of stores. Assumes nothing.
+-- Laws of the list f 0, f 1, .., f (n - 1), and of runs of numbers in a list. Assumes nothing.
 use mathlib.Core.Path.{_≡_, refl, sym, ap, _∙_}
-use mathlib.Core.List.{List, [], _∷_, _++_, map, map-map, map-append, append-nil}
+use mathlib.Core.List.{List, [], _∷_, _++_, map, map-map, map-append}
 use Prim.Native.Nat.{ℕ, zero, suc, _+_, _≤_, _<_}
-use mathlib.Core.Logic.{_⊎_, inl, inr}
 use native.Mathlib.Nat.{add-zero, zero-add}
-use native.Mathlib.Numerals.{add-one}
 use native.Mathlib.Omega.{arith}
-use lib.ListN.{length, getD, set, take, drop, length-append, length-map, drop-of-length-le, length-set}
-use lib.Seq.{sets, sets-eq, ext-getD, take-suc, length-take-le, getD-set-same, getD-set-other}
+use lib.ListN.{length, getD, length-map}
+use lib.Seq.{sets, ext-getD}
 use Rattle.rules.specs.Lists.{upFrom}
 use Rattle.lists.proofs.Membership.{map-same, in-upFrom, length-upFrom, getD-run}
+use Rattle.memory.proofs.Stores.{getD-sets}
 use Rattle.numbering.specs.Table.{firsts, run}
 
 -- ---- the first n
@@ -61,54 +60,8 @@ pub run-kept : (w w′ : List ℕ) (at c : ℕ) → ((i : ℕ) → at ≤ i → 
 unfolding run
 run-kept w w′ at c h = firsts-same (λ (q : ℕ). getD w′ (at + q) 0) (λ (q : ℕ). getD w (at + q) 0) c (λ i l. h (at + i) (omega arith) (omega arith))
 
--- ---- runs of stores
-
-module _ {A : Type 0} where
-  -- a run of stores, and one store behind it
-  pub sets-snoc : (l : List A) (i : ℕ) (vs : List A) (v : A) → sets l i (vs ++ (v ∷ [])) ≡ set (sets l i vs) (i + length vs) v
-  sets-snoc l i [] v = rw (add-zero i)
-  sets-snoc l i (x ∷ vs) v =
-      let e : i + suc (length vs) ≡ suc i + length vs = omega arith in
-      sets-snoc (set l i x) (suc i) vs v ∙ ap (λ (j : ℕ). set (sets (set l i x) (suc i) vs) j v) (sym e)
-
-  -- one run of stores behind another
-  pub sets-append : (l : List A) (i : ℕ) (us vs : List A) → sets l i (us ++ vs) ≡ sets (sets l i us) (i + length us) vs
-  sets-append l i [] vs = rw (add-zero i)
-  sets-append l i (u ∷ us) vs =
-      let e : i + suc (length us) ≡ suc i + length us = omega arith in
-      sets-append (set l i u) (suc i) us vs ∙ ap (λ (j : ℕ). sets (sets (set l i u) (suc i) us) j vs) (sym e)
-
-  -- a loop that stores f 0, f 1, ..: a turn
-  pub sets-turn : (l : List A) (i : ℕ) (f : ℕ → A) (j : ℕ) (v : A) → v ≡ f j → set (sets l i (firsts f j)) (i + j) v ≡ sets l i (firsts f (j + 1))
-  sets-turn l i f j v p =
-      rw (p, add-one j, firsts-snoc f j)
-      (ap (λ (k : ℕ). set (sets l i (firsts f j)) (i + k) (f j)) (sym (length-firsts f j)) ∙ sym (sets-snoc l i (firsts f j) (f j)))
-
-  -- a whole list, stored over
-  pub sets-whole : (l vs : List A) → length vs ≡ length l → sets l 0 vs ≡ vs
-  sets-whole l vs e =
-      sets-eq vs l 0 (omega arith)
-      ∙ ap (λ (r : List A). vs ++ r) (drop-of-length-le l {i = 0 + length vs} (omega arith))
-      ∙ append-nil vs
-
--- stores from i on leave the other numbers
-pub sets-other : (l : List ℕ) (i : ℕ) (vs : List ℕ) (j : ℕ) → (j < i) ⊎ (i + length vs ≤ j) → getD (sets l i vs) j 0 ≡ getD l j 0
-sets-other l i [] j h = refl
-sets-other l i (v ∷ vs) j (inl h) =
-    sets-other (set l i v) (suc i) vs j (inl (omega arith)) ∙ getD-set-other l i j v 0 (λ p. absurd (omega arith))
-sets-other l i (v ∷ vs) j (inr h) =
-    sets-other (set l i v) (suc i) vs j (inr (omega arith)) ∙ getD-set-other l i j v 0 (λ p. absurd (omega arith))
-
--- and are read back
-pub getD-sets : (l : List ℕ) (i : ℕ) (vs : List ℕ) (j : ℕ) → j < length vs → i + length vs ≤ length l → getD (sets l i vs) (i + j) 0 ≡ getD vs j 0
-getD-sets l i [] j h u = absurd (omega arith)
-getD-sets l i (v ∷ vs) zero h u =
-    rw (add-zero i) (sets-other (set l i v) (suc i) vs i (inl (omega arith)) ∙ getD-set-same l i v 0 (omega arith))
-getD-sets l i (v ∷ vs) (suc j) h u =
-    let e : i + suc j ≡ suc i + j = omega arith in
-    ap (λ (q : ℕ). getD (sets (set l i v) (suc i) vs) q 0) e ∙ getD-sets (set l i v) (suc i) vs j (omega arith) (rw length-set (omega arith))
-
+-- a run that was stored
 pub run-sets : (l : List ℕ) (at : ℕ) (vs : List ℕ) → at + length vs ≤ length l → run (sets l at vs) at (length vs) ≡ vs
 run-sets l at vs h =
     ext-getD 0 (run (sets l at vs) at (length vs)) vs (length-run (sets l at vs) at (length vs))
-    (λ i l₁. let u : i < length vs = omega (arith, length-run (sets l at vs) at (length vs)) in getD-of-run (sets l at vs) at (length vs) i u ∙ getD-sets l at vs i u h)
+    (λ i l₁. let u : i < length vs = omega (arith, length-run (sets l at vs) at (length vs)) in getD-of-run (sets l at vs) at (length vs) i u ∙ getD-sets l at vs i 0 u h)

@@ -4,6 +4,11 @@ pub mod Firsts
 pub mod Chains
 -- Entries: what the reads and stores of the table's code have to show.
 pub mod Entries
-
 -- Sort: an insertion sort in place makes the key.
--- pub mod Sort
+pub mod Sort
+-- Places: the places of the parts' corners.
+pub mod Places
+-- Passes: keys met one after the other.
+pub mod Passes
+-- MeshKeys: what the passes meet, in the words of the rules.
+pub mod MeshKeys

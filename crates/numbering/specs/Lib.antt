@@ -5,3 +5,7 @@ pub mod Chains
 pub mod Table
 -- Meeting: the answer to meeting a key.
 pub mod Meeting
+-- Parts: the parts of cells that are numbered; the answer to numbering them.
+pub mod Parts
+-- Count: how many distinct keys there are.
+pub mod Count

@@ -6,3 +6,9 @@
 
 // A table of keys.
 pub mod table;
+// The key of some corners.
+pub mod keys;
+// The parts of cells.
+pub mod parts;
+// Counting distinct parts.
+pub mod count;

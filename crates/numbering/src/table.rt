@@ -100,8 +100,8 @@ fn enter(w: &mut [u32], room: usize, n: usize, s: usize, key: &[u32])
 {
     let size = key.len() + 1;
     let at = room + 1 + size * n;
-    let first = w[s];
-    w[at] = first;
+    let older = w[s];
+    w[at] = older;
     put(w, at + 1, key);
     w[s] = (n + 1) as u32;
 }

@@ -3,7 +3,7 @@ use Prim.Native.Nat.{_-_}
 use native.Mathlib.Omega.{arith}
 use lib.ListN.{length}
 use lib.IntN.{pos}
-use Rattle.memory.proofs.Loops.{Clearing, store-start, clear-turn, clear-end}
+use Rattle.memory.proofs.Stores.{Clearing, store-start, clear-turn, clear-end}
 use Rattle.memory.proofs.clear_i32.Statement.{statement}
 use Rattle.memory.proofs.clear_i32.Tie as tie
 
@@ -13,7 +13,7 @@ clear-i32-spec =
     (tie.spec
     (λ w₀ i₀ w i. Clearing (pos 0) w₀ w i)
     (λ w₀ i₀ w i. length w₀ - i)
-    (λ c. store-start _ _)
+    (λ c. store-start _ _ _)
     (λ c. omega arith)
     (λ c. omega arith)
     (λ c. omega arith)

@@ -2,7 +2,7 @@
 use Prim.Native.Nat.{_-_}
 use native.Mathlib.Omega.{arith}
 use lib.ListN.{length}
-use Rattle.memory.proofs.Loops.{Clearing, store-start, clear-turn, clear-end}
+use Rattle.memory.proofs.Stores.{Clearing, store-start, clear-turn, clear-end}
 use Rattle.memory.proofs.clear_u32.Statement.{statement}
 use Rattle.memory.proofs.clear_u32.Tie as tie
 
@@ -12,7 +12,7 @@ clear-u32-spec =
     (tie.spec
     (λ w₀ i₀ w i. Clearing 0 w₀ w i)
     (λ w₀ i₀ w i. length w₀ - i)
-    (λ c. store-start _ _)
+    (λ c. store-start _ _ _)
     (λ c. omega arith)
     (λ c. omega arith)
     (λ c. omega arith)

@@ -1,10 +1,11 @@
 -- `memory::copy_i32` meets its contract, by the laws of a storing loop. Assumes nothing.
+use mathlib.Core.Path.{_∙_}
 use Prim.Native.Nat.{_-_}
 use native.Mathlib.Omega.{arith}
 use lib.ListN.{length}
 use lib.IntN.{pos}
 use mir.Facts.{toZ-ofZ}
-use Rattle.memory.proofs.Loops.{Storing, store-start, store-turn, store-end}
+use Rattle.memory.proofs.Stores.{Storing, store-start, front-turn, store-end, sets-front}
 use Rattle.memory.proofs.copy_i32.Statement.{statement}
 use Rattle.memory.proofs.copy_i32.Tie as tie
 
@@ -12,15 +13,15 @@ pub copy-i32-spec : {M : Type 1} → statement M
 copy-i32-spec =
     tie.close
     (tie.spec
-    (λ src dst₀ i₀ dst i. Storing src dst₀ dst i)
+    (λ src dst₀ i₀ dst i. Storing 0 src dst₀ dst i)
     (λ src dst₀ i₀ dst i. length src - i)
-    (λ c. store-start _ _)
+    (λ c. store-start _ _ _)
     (λ c. omega arith)
     (λ c. omega arith)
     (λ c. omega arith)
     (λ c. omega arith)
     (λ c. omega arith)
     (λ c. omega arith)
-    (λ c. store-turn (pos 0) (toZ-ofZ (record { sfits = c .dst .given })) (c .before .before .loop .inv) (c .before .before .before .pre) (c .before .loop-test .taken))
+    (λ c. front-turn (pos 0) (toZ-ofZ (record { sfits = c .dst .given })) (c .before .before .loop .inv) (c .before .loop-test .taken))
     (λ c. c .before .loop .inv .long)
-    (λ c. store-end (c .before .loop .inv) (c .loop-test .left)))
+    (λ c. store-end (c .before .loop .inv) (c .loop-test .left) ∙ sets-front _ _ (c .before .before .pre)))

@@ -1,13 +1,13 @@
 -- `numbering::table::put` meets its contract: the rest of the list is lent to a copy. Assumes nothing.
 use borrow.Author.Needs.{needs}
-use Rattle.numbering.proofs.Entries.{put-rest}
+use Rattle.memory.proofs.Stores.{sets-rest}
 use Rattle.numbering.proofs.table.put.Statement.{statement}
 use Rattle.numbering.proofs.table.put.Tie as tie
 
 returns : tie.Need-returns
 returns c =
     let a = c .before .before .before .before .before .before in
-    rw (c .before .before .copy-u32 .ensures) (put-rest (a .args .at) (a .args .w .now) (a .args .key .now) (a .pre))
+    rw (c .before .before .copy-u32 .ensures) (sets-rest (a .args .at) (a .args .w .now) (a .args .key .now) (a .pre))
 
 pub put-spec : {M : Type 1} → statement M
 put-spec =

@@ -1,0 +1,76 @@
+-- `bits::get_bytes` meets its contract. The loop's invariant: x is what the bytes passed spell.
+use Prim.Native.Nat.{ℕ, _+_, _-_, _*_, _^_, _≤_, _<_}
+use mathlib.Core.Path.{_≡_, sym, ap, _∙_}
+use native.Mathlib.Omega.{arith}
+use lib.ListN.{take, drop, getD}
+use Rattle.rules.specs.Bits.{number}
+use Rattle.bits.proofs.Windows.{window-none, window-step, window-lt}
+use Rattle.bits.proofs.get_bytes.Statement.{statement}
+use Rattle.bits.proofs.get_bytes.Tie as tie
+
+abbrev Inv-loop : tie.InvT-loop
+Inv-loop s from to x₀ i₀ x i = (from ≤ i) × (i ≤ to) × (x ≡ number (take (i - from) (drop from s)))
+
+abbrev μ-loop : tie.MeasureT-loop
+μ-loop s from to x₀ i₀ x i = to - i
+
+loop-holds : tie.Need-loop-holds Inv-loop μ-loop
+loop-holds c =
+    let a = c .before .args in
+    let none : 0 ≡ a .from - a .from = omega arith in
+    (omega arith, omega arith, window-none (a .s .now) (a .from) ∙ ap (λ (n : ℕ). number (take n (drop (a .from) (a .s .now)))) none)
+
+shared-slice-read-append : tie.Need-shared-slice-read-append Inv-loop μ-loop
+shared-slice-read-append c = omega arith
+
+cast-append : tie.Need-cast-append Inv-loop μ-loop
+cast-append c = omega (arith, c .shared-slice-known2 .given (c .before .before .loop .i))
+
+append-requires : tie.Need-append-requires Inv-loop μ-loop
+append-requires c κs =
+    let at-loop = c .before .before in
+    let a = at-loop .before .before .args in
+    let i = at-loop .loop .i in
+    let bytes = c .shared-slice-known2 .given in
+    let four : number (take (i - a .from) (drop (a .from) (a .s .now))) < 2 ^ 32 =
+    window-lt (a .s .now) (a .from) (i - a .from) 4 (λ j. bytes j .fits) (omega arith) in
+    (omega arith, omega (arith, at-loop .loop .inv .2, four), bytes i .fits)
+
+add-i : tie.Need-add-i Inv-loop μ-loop
+add-i c = omega arith
+
+loop-less : tie.Need-loop-less Inv-loop μ-loop
+loop-less c = omega arith
+
+loop-again : tie.Need-loop-again Inv-loop μ-loop
+loop-again c =
+    let at-loop = c .before .before .before in
+    let a = at-loop .before .before .args in
+    let i = at-loop .loop .i in (
+      omega arith,
+      omega arith,
+      c .append .ensures
+          ∙ ap (λ (n : ℕ). n * 2 ^ 8 + getD (a .s .now) i 0) (at-loop .loop .inv .2)
+          ∙ sym (window-step (a .s .now) (a .from) i (omega arith) (omega arith)),
+    )
+
+returns : tie.Need-returns Inv-loop μ-loop
+returns c =
+    let a = c .before .before .before .args in
+    let end : c .before .loop .i ≡ a .to = omega arith in
+    c .before .loop .inv .2 ∙ ap (λ (n : ℕ). number (take (n - a .from) (drop (a .from) (a .s .now)))) end
+
+pub get-bytes-spec : {M : Type 1} → statement M
+get-bytes-spec =
+    tie.close
+    (tie.spec
+    Inv-loop
+    μ-loop
+    loop-holds
+    shared-slice-read-append
+    cast-append
+    append-requires
+    add-i
+    loop-less
+    loop-again
+    returns)

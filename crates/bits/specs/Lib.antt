@@ -1,0 +1,5 @@
+-- Bit fields in and out of bytes, beside the definitions of `rules`.
+-- BitList: the plain reading of the same, as lists of bits.
+pub mod BitList
+-- Writing: a buffer into which fields are written one behind another.
+pub mod Writing

@@ -1,0 +1,27 @@
+-- A buffer into which bit fields are written one behind another.
+use mathlib.Core.List.{List, [], _∷_, _++_}
+use Prim.Native.Nat.{ℕ, _+_, _*_, _^_, _<_}
+use lib.ListN.{drop, getD}
+use Rattle.rules.specs.Bits.{firstBits, Field, bytesFor, packed}
+
+-- every element is a byte
+abbrev pub Bytes : List ℕ → Type 0
+Bytes s = (i : ℕ) → getD s i 0 < 256
+
+-- every value has its width
+abbrev pub Fit : List Field → Type 0
+Fit [] = Unit {0}
+Fit (f ∷ fs) = (f .value < 2 ^ f .width) × Fit fs
+
+-- a buffer d of which the first p bits spell v: these, zero bits to a whole byte, and the bytes after that as they were
+unfoldable pub written : List ℕ → ℕ → ℕ → List ℕ
+written d p v = packed p v ++ drop (bytesFor p) d
+
+-- a buffer after k bits that spell v are written behind its first p bits
+unfoldable pub putAt : List ℕ → ℕ → ℕ → ℕ → List ℕ
+putAt d p k v = written d (p + k) (firstBits d p * 2 ^ k + v)
+
+-- the same for a list of fields
+unfoldable pub putAll : List ℕ → ℕ → List Field → List ℕ
+putAll d p [] = d
+putAll d p (f ∷ fs) = putAll (putAt d p (f .width) (f .value)) (p + f .width) fs

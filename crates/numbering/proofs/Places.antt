@@ -1,0 +1,75 @@
+-- The places of the parts' corners: as many as a part has corners, each below the cell's count. Assumes nothing.
+use mathlib.Core.Path.{_≡_}
+use mathlib.Core.List.{List, []}
+use Prim.Native.Nat.{ℕ, _≤_, _<_}
+use native.Mathlib.Omega.{arith}
+use lib.ListN.{length, getD}
+use Rattle.rules.specs.Lists.{upFrom}
+use Rattle.rules.specs.Mesh.{singles, whole, byDimension, places, placeOf}
+use Rattle.lists.specs.Membership.{In}
+use Rattle.lists.proofs.Membership.{getD-in}
+use Rattle.lists.proofs.Decide.{computed, decBoth, decEach, decNumber, decBelow}
+use Rattle.numbering.specs.declared.parts.Parts.{Parts}
+use Rattle.numbering.specs.declared.parts.Parts.the-variants.{HexEdges, HexFaces, Hexes, QuadEdges, Quads, Segments, SegmentFaces, Points}
+use Rattle.numbering.specs.Parts.{placesOf, partCorners, cellCorners}
+
+-- a part of c corners of a cell of n
+abbrev Part : ℕ → ℕ → List ℕ → Type 0
+Part c n p = (length p ≡ c) × ((q : ℕ) → In q p → q < n)
+
+abbrev decParts : (c n : ℕ) (ps : List (List ℕ)) → Dec ((p : List ℕ) → In p ps → Part c n p)
+decParts c n ps = decEach (λ (p : List ℕ). decBoth (decNumber (length p) c) (decEach (λ (q : ℕ). decBelow q n) p)) ps
+
+each-part : (parts : Parts) (p : List ℕ) → In p (placesOf parts) → Part (partCorners parts) (cellCorners parts) p
+unfolding places byDimension singles whole upFrom
+each-part HexEdges = computed (decParts 2 8 (placesOf HexEdges)) tt
+each-part HexFaces = computed (decParts 4 8 (placesOf HexFaces)) tt
+each-part Hexes = computed (decParts 8 8 (placesOf Hexes)) tt
+each-part QuadEdges = computed (decParts 2 4 (placesOf QuadEdges)) tt
+each-part Quads = computed (decParts 4 4 (placesOf Quads)) tt
+each-part Segments = computed (decParts 2 2 (placesOf Segments)) tt
+each-part SegmentFaces = computed (decParts 4 2 (placesOf SegmentFaces)) tt
+each-part Points = computed (decParts 1 1 (placesOf Points)) tt
+
+module _ (parts : Parts) (j : ℕ) (l : j < length (placesOf parts)) where
+  pub part-size : length (getD (placesOf parts) j []) ≡ partCorners parts
+  part-size = each-part parts (getD (placesOf parts) j []) (getD-in (placesOf parts) j [] l) .0
+
+  pub place-below : (q : ℕ) → q < partCorners parts → placeOf (placesOf parts) j q < cellCorners parts
+  place-below q u =
+      let p = getD (placesOf parts) j [] in
+      each-part parts p (getD-in (placesOf parts) j [] l) .1 (getD p q 0) (getD-in p q 0 (omega (arith, part-size)))
+
+-- a cell has at most 12 parts of one dimension
+pub few-parts : (parts : Parts) → length (placesOf parts) ≤ 12
+unfolding places byDimension singles upFrom
+few-parts HexEdges = omega arith
+few-parts HexFaces = omega arith
+few-parts Hexes = omega arith
+few-parts QuadEdges = omega arith
+few-parts Quads = omega arith
+few-parts Segments = omega arith
+few-parts SegmentFaces = omega arith
+few-parts Points = omega arith
+
+-- a part has at most 8 corners
+pub small-parts : (parts : Parts) → partCorners parts ≤ 8
+small-parts HexEdges = omega arith
+small-parts HexFaces = omega arith
+small-parts Hexes = omega arith
+small-parts QuadEdges = omega arith
+small-parts Quads = omega arith
+small-parts Segments = omega arith
+small-parts SegmentFaces = omega arith
+small-parts Points = omega arith
+
+-- a cell has corners
+pub some-corners : (parts : Parts) → 0 < cellCorners parts
+some-corners HexEdges = omega arith
+some-corners HexFaces = omega arith
+some-corners Hexes = omega arith
+some-corners QuadEdges = omega arith
+some-corners Quads = omega arith
+some-corners Segments = omega arith
+some-corners SegmentFaces = omega arith
+some-corners Points = omega arith

@@ -1,0 +1,68 @@
+//! Lent memory of every length on small meshes: no length may change more than 11 allows.
+
+use super::Comparison;
+use crate::checks::check_refining;
+use crate::generate::{damage, lent, small_mesh, wild};
+use crate::mesh::Mesh;
+use crate::random::Random;
+use crate::samples::*;
+
+/// Each buffer in turn from length 0 to beyond its need, the others just long enough.
+pub fn every_length(comparison: &mut Comparison) {
+    let mut random = Random::new(41);
+    let meshes = [p1(), p5(), p6(), p7(), p8(), p9(), p12(), lone_point([1, 2, 3]), touching_segments()];
+    for mesh in &meshes {
+        for rounds in 0..2 {
+            sweep(comparison, mesh, rounds, &mut random);
+        }
+    }
+    sweep(comparison, &p1(), 3, &mut random);
+    sweep(comparison, &p5(), 2, &mut random);
+    for _ in 0..10 * comparison.scale {
+        let mesh = small_mesh(&mut random, 16);
+        let rounds = random.below(2) as u32;
+        sweep(comparison, &mesh, rounds, &mut random);
+    }
+}
+
+fn sweep(comparison: &mut Comparison, mesh: &Mesh, rounds: u32, random: &mut Random) {
+    let needed = lent::needed_lengths(check_refining(mesh, rounds).expect("a sound mesh"));
+    for buffer in 0..lent::BUFFERS {
+        for length in 0..needed[buffer] + 3 {
+            let mut lengths = needed;
+            lengths[buffer] = length;
+            comparison.refine(mesh, rounds, &lent::with_lengths(lengths, random));
+        }
+    }
+}
+
+/// Checks 6, 7, 8 and 10 come before 11: working numbers of any length must give them all the same.
+pub fn checks_in_short_memory(comparison: &mut Comparison) {
+    for case in 0..25 * comparison.scale {
+        let mut random = Random::new(4_000_000 + case);
+        let mut mesh = small_mesh(&mut random, 24);
+        let kind = random.pick(&[0, 0, 5, 6, 6, 7, 7, 8]);
+        if kind > 0 {
+            damage::damage(&mut mesh, kind, &mut random);
+        }
+        let rounds = random.pick(&[0, 1, 8]);
+        each_working_length(comparison, &mesh, rounds, &mut random);
+    }
+    for hexes in [20, 60, 150] {
+        let mut random = Random::new(42);
+        let mesh = wild::crowded(hexes, 6, &mut random);
+        each_working_length(comparison, &mesh, 0, &mut random);
+        let mut doubled = mesh;
+        damage::damage(&mut doubled, 6, &mut random);
+        each_working_length(comparison, &doubled, 0, &mut random);
+    }
+}
+
+fn each_working_length(comparison: &mut Comparison, mesh: &Mesh, rounds: u32, random: &mut Random) {
+    let places = mesh.places();
+    for length in 0..8 * mesh.vertex_count() + 9 {
+        let mut lengths = lent::needed_lengths(places);
+        lengths[10] = length;
+        comparison.refine(mesh, rounds, &lent::with_lengths(lengths, random));
+    }
+}

@@ -1,0 +1,28 @@
+//! A kernel for document 01 that was written separately, from the paper alone: an oracle for the proved one.
+//! It is made to be read against the paper, and not to be fast.
+
+#![allow(clippy::manual_is_multiple_of)]
+
+pub mod answers;
+pub mod average;
+pub mod bracket;
+pub mod catalogue;
+pub mod cells;
+pub mod checks;
+pub mod compare;
+pub mod entries;
+pub mod exact;
+#[cfg(mlca_linked)]
+pub mod ffi;
+pub mod generate;
+pub mod integer;
+pub mod listing;
+pub mod mesh;
+pub mod natural;
+pub mod property;
+pub mod random;
+pub mod refusal;
+pub mod samples;
+pub mod split;
+pub mod stored;
+pub mod wrong;
