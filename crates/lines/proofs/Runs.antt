@@ -8,7 +8,7 @@ use lib.ListN.{length, take, drop, getD, set, length-append, take-append-drop}
 use lib.Seq.{sets, length-sets, sets-eq, take-suc, take-all, drop-cons}
 use Rattle.rules.specs.Lists.{concatMap, overwritten}
 use Rattle.lists.proofs.Once.{concatMap-append}
-use Rattle.lines.specs.Appended.{Room, Appended}
+use Rattle.lines.specs.Appended.{Room, Appended, Printed}
 
 -- ---- one after another
 
@@ -48,13 +48,12 @@ room-first x y r = record { fits = omega (arith, length-append x y) }
 pub room-rest : {old new x : List ℕ} {at next : ℕ} (y : List ℕ) → Appended old new at next x → Room old at (x ++ y) → Room new next y
 room-rest {x = x} y a r = record { fits = omega (arith, length-append x y, append-length a) }
 
--- what is appended to nothing is an overwritten buffer
-pub append-front : {old new x : List ℕ} {next : ℕ} → Room old 0 x → Appended old new 0 next x → new ≡ overwritten old x
+-- what is appended to nothing stands at the front
+pub append-front : {old new x : List ℕ} {next : ℕ} → Room old 0 x → Appended old new 0 next x → Printed old new next x
 unfolding overwritten
-append-front {old} {new} {x} r a = a .stored ∙ sets-eq x old 0 (r .fits) ∙ ap (λ (k : ℕ). x ++ drop k old) (zero-add (length x))
-  where
-    zero-add : (n : ℕ) → 0 + n ≡ n
-    zero-add n = omega arith
+append-front {old} {new} {x} r a =
+    let n : 0 + length x ≡ length x = omega arith in
+    record { counted = a .behind ∙ n; output = a .stored ∙ sets-eq x old 0 (r .fits) ∙ ap (λ (k : ℕ). x ++ drop k old) n }
 
 -- ---- for each element of a list
 

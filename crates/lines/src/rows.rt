@@ -9,7 +9,7 @@ ghost use lib.ListN.{length};
 ghost use Rattle.rules.specs.Lists.{concatMap, cut, upFrom};
 ghost use Rattle.rules.specs.Mesh.{mesh, topology};
 ghost use Rattle.rules.specs.Listing.{decimal, signedDecimal, fields, line, meshLine, vertexLine, cellLines, meshLines, refusedLine};
-ghost use Rattle.lines.specs.Appended.{Room, Appended};
+ghost use Rattle.lines.specs.Appended.{Room, Appended, Printed};
 ghost use Rattle.lines.specs.Fitting.{Fitting, outputSize};
 
 // Numbers, each behind a space, and the line feed.
@@ -167,7 +167,7 @@ pub fn mesh_lines(
 ) -> usize
     requires { ⌜ Fitting (mesh (now xs) (now hexes) (now quads) (now segments) (now points)) ⌝ }
     requires { ⌜ outputSize ≤ length (now out) ⌝ }
-    ensures { λ r. let m = mesh (now (xs .entry)) (now (hexes .entry)) (now (quads .entry)) (now (segments .entry)) (now (points .entry)) in ⌜ Appended (now (out .entry)) (now (out .exit)) 0 r (meshLines m) ⌝ }
+    ensures { λ r. let m = mesh (now (xs .entry)) (now (hexes .entry)) (now (quads .entry)) (now (segments .entry)) (now (points .entry)) in ⌜ Printed (now (out .entry)) (now (out .exit)) r (meshLines m) ⌝ }
 {
     let counts = Counts {
         vertices: (xs.len() / 3) as u32,
@@ -184,7 +184,7 @@ pub fn mesh_lines(
 // The one line of a refusal, from the front of the buffer on: a word of 7 bytes, a space, 10 digits at most, a line feed.
 pub fn refused_line(number: u32, out: &mut [u8]) -> usize
     requires { ⌜ 19 ≤ length (now out) ⌝ }
-    ensures { λ r. ⌜ Appended (now (out .entry)) (now (out .exit)) 0 r (refusedLine number) ⌝ }
+    ensures { λ r. ⌜ Printed (now (out .entry)) (now (out .exit)) r (refusedLine number) ⌝ }
 {
     let numbers = [number];
     let next = append::append_word(b"refused", out, 0);

@@ -11,7 +11,7 @@ use Rattle.rules.specs.Mesh.{Mesh, mesh, topology}
 use Rattle.rules.specs.Counts.{countsOf}
 use Rattle.rules.specs.Listing.{meshLine, vertexLine, cellLines, meshLines}
 use Rattle.lines.specs.Appended.{Room}
-use Rattle.lines.proofs.Runs.{_then_, room-first, room-rest}
+use Rattle.lines.proofs.Runs.{_then_, room-first, room-rest, append-front}
 use Rattle.lines.proofs.Longest.{meshLines-length}
 use Rattle.lines.proofs.rows.mesh_lines.Statement.{statement}
 use Rattle.lines.proofs.rows.mesh_lines.Tie as tie
@@ -72,4 +72,4 @@ mesh-lines-spec =
     let b = c .before .before .before .before .before .before in
     let a = b .before .before .before .before in
     let s = a .before .before .before .before .before .before .before in
-    rw (← runs-are (given s)) (a .append-mesh-line .ensures then b .append-vertex-lines .ensures then c .before .before .append-cells .ensures)))
+    rw (← runs-are (given s)) (append-front (room (a .before .before)) (a .append-mesh-line .ensures then b .append-vertex-lines .ensures then c .before .before .append-cells .ensures))))

@@ -3,7 +3,7 @@ use native.Mathlib.Omega.{arith}
 use borrow.Author.Needs.{needs}
 use Rattle.rules.specs.Listing.{line, refusedLine}
 use Rattle.lines.specs.Appended.{Room}
-use Rattle.lines.proofs.Runs.{_then_, room-rest}
+use Rattle.lines.proofs.Runs.{_then_, room-rest, append-front}
 use Rattle.lines.proofs.Longest.{refused-length}
 use Rattle.lines.proofs.rows.refused_line.Statement.{statement}
 use Rattle.lines.proofs.rows.refused_line.Tie as tie
@@ -21,4 +21,6 @@ refused-line-spec =
     (λ c. search needs)
     (λ c κs. room-rest _ (c .before .before .before .before .append-word .ensures) (room (c .before .before .before .before .before .before .before .before)))
     (λ c. search needs)
-    (λ c. c .before .before .before .before .before .before .before .append-word .ensures then c .before .before .append-fields .ensures))
+    (λ c.
+    let a = c .before .before .before .before .before .before .before in
+    append-front (room (a .before .before .before .before)) (a .append-word .ensures then c .before .before .append-fields .ensures)))
