@@ -222,6 +222,25 @@ length-distinct xs ys =
     let r = distinct-prefix xs ys in
     omega (arith, ap length (r .1) ∙ length-append (distinct xs) (r .0))
 
+-- there are no more distinct keys than keys
+meet-length : (known : List Key) (k : Key) → length (meet known k) ≤ suc (length known)
+unfolding meet
+meet-length [] k = omega arith
+meet-length (x ∷ known) k = go (same k x) (meet-length known k)
+  where
+    go : (b : Bool) → length (meet known k) ≤ suc (length known) → length (cond b (x ∷ known) (x ∷ meet known k)) ≤ suc (length (x ∷ known))
+    go true h = omega arith
+    go false h = omega arith
+
+meetAll-length : (known ks : List Key) → length (meetAll known ks) ≤ length known + length ks
+unfolding meetAll
+meetAll-length known [] = omega arith
+meetAll-length known (k ∷ ks) = omega (arith, meetAll-length (meet known k) ks, meet-length known k)
+
+pub distinct-length : (ks : List Key) → length (distinct ks) ≤ length ks
+unfolding distinct
+distinct-length ks = omega (arith, meetAll-length [] ks)
+
 -- ---- a list without repeats is its own list of distinct keys
 
 meetAll-absent : (known ks : List Key) → Once ks → ((k : Key) → In k ks → In k known → ⊥) → meetAll known ks ≡ known ++ ks

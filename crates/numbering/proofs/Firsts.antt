@@ -13,7 +13,7 @@ use Rattle.numbering.specs.Table.{firsts, run}
 
 -- ---- the first n
 
-upFrom-snoc : (a n : ℕ) → upFrom a (suc n) ≡ upFrom a n ++ ((a + n) ∷ [])
+pub upFrom-snoc : (a n : ℕ) → upFrom a (suc n) ≡ upFrom a n ++ ((a + n) ∷ [])
 unfolding upFrom
 upFrom-snoc a zero = rw (add-zero a)
 upFrom-snoc a (suc n) =

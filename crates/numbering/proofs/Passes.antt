@@ -1,15 +1,17 @@
 -- Keys met one after the other: what a loop over keys keeps, with the numbers that it stores. Assumes nothing.
 use mathlib.Core.Path.{_≡_, refl, sym, ap, _∙_}
 use mathlib.Core.List.{List, [], _∷_, _++_, map, append-assoc, append-nil}
-use Prim.Native.Nat.{ℕ, suc, _+_, _≤_, _<_}
+use Prim.Native.Nat.{ℕ, suc, _+_, _*_, _/_, _-_, _≤_, _<_}
+use native.Mathlib.Nat.{mul-div-le, mul-le-mul-left}
 use native.Mathlib.Numerals.{add-one}
 use native.Mathlib.Omega.{arith}
-use lib.ListN.{length, getD, set, take, drop, length-append, length-map, take-append-drop}
-use lib.Seq.{split-at, take-all, take-suc}
-use Rattle.rules.specs.Lists.{concatMap, upFrom, Key, indexOf, meet, meetAll, distinct}
+use lib.ListN.{length, getD, set, take, drop, length-append, length-drop, length-map, take-append-drop}
+use lib.Seq.{split-at, length-take-le, take-all, take-suc}
+use Rattle.rules.specs.Lists.{concatMap, cut, upFrom, Key, indexOf, meet, meetAll, distinct}
 use Rattle.lists.specs.Membership.{In}
 use Rattle.lists.proofs.Membership.{getD-map}
 use Rattle.lists.proofs.Once.{concatMap-append}
+use Rattle.lists.proofs.Tables.{cut-entry}
 use Rattle.lists.proofs.Distinct.{index-in, index-left, meetAll-append, meetAll-more}
 use Rattle.memory.proofs.Stores.{Storing, store-start, store-turn, store-end}
 use Rattle.numbering.specs.declared.parts.Tally.{Tally}
@@ -32,6 +34,22 @@ pub length-later : (known xs ys : List Key) → length (meetAll known xs) ≤ le
 length-later known xs ys =
     let r = meetAll-more (meetAll known xs) ys in
     omega (arith, ap length (meetAll-append known xs ys ∙ r .1) ∙ length-append (meetAll known xs) (r .0))
+
+-- ---- a cell of a flat table
+
+-- where entry i of k elements ends
+pub entry-end : (k i : ℕ) (xs : List ℕ) → i < length xs / k → k * i + k ≤ length xs
+entry-end k i xs l = omega (arith, mul-div-le (length xs) k, mul-le-mul-left k l)
+
+-- what is lent of the table
+pub entry-is : (k i : ℕ) (xs : List ℕ) → i < length xs / k → take (k * i + k - k * i) (drop (k * i) xs) ≡ getD (cut k xs) i []
+entry-is k i xs l =
+    let e : k * i + k - k * i ≡ k = omega arith in
+    ap (λ (n : ℕ). take n (drop (k * i) xs)) e ∙ sym (cut-entry k i xs [] l)
+
+pub entry-length : (k i : ℕ) (xs : List ℕ) → i < length xs / k → length (take (k * i + k - k * i) (drop (k * i) xs)) ≡ k
+entry-length k i xs l =
+    length-take-le (k * i + k - k * i) (drop (k * i) xs) (omega (arith, length-drop (k * i) xs, entry-end k i xs l)) ∙ omega arith
 
 -- ---- a list, element after element
 

@@ -3,15 +3,16 @@ use mathlib.Core.Path.{_≡_}
 use mathlib.Core.List.{List, []}
 use Prim.Native.Nat.{ℕ, _≤_, _<_}
 use native.Mathlib.Omega.{arith}
-use lib.ListN.{length, getD}
+use lib.ListN.{length, getD, length-map}
 use Rattle.rules.specs.Lists.{upFrom}
 use Rattle.rules.specs.Mesh.{singles, whole, byDimension, places, placeOf}
+use Rattle.rules.specs.Split.{keyAt}
 use Rattle.lists.specs.Membership.{In}
 use Rattle.lists.proofs.Membership.{getD-in}
 use Rattle.lists.proofs.Decide.{computed, decBoth, decEach, decNumber, decBelow}
 use Rattle.numbering.specs.declared.parts.Parts.{Parts}
 use Rattle.numbering.specs.declared.parts.Parts.the-variants.{HexEdges, HexFaces, Hexes, QuadEdges, Quads, Segments, SegmentFaces, Points}
-use Rattle.numbering.specs.Parts.{placesOf, partCorners, cellCorners}
+use Rattle.numbering.specs.Parts.{placesOf, partCorners, cellCorners, partKeys}
 
 -- a part of c corners of a cell of n
 abbrev Part : ℕ → ℕ → List ℕ → Type 0
@@ -73,3 +74,7 @@ some-corners Quads = omega arith
 some-corners Segments = omega arith
 some-corners SegmentFaces = omega arith
 some-corners Points = omega arith
+
+pub length-partKeys : (parts : Parts) (cell : List ℕ) → length (partKeys parts cell) ≡ length (placesOf parts)
+unfolding partKeys
+length-partKeys parts cell = length-map (placesOf parts) (keyAt cell)

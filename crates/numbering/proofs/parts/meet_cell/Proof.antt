@@ -1,34 +1,17 @@
 -- `numbering::parts::meet_cell` meets its contract: the part of the table that is lent is the cell. Assumes nothing.
-use mathlib.Core.Path.{_≡_, sym, ap, _∙_}
-use mathlib.Core.List.{List, []}
-use Prim.Native.Nat.{ℕ, _+_, _*_, _/_, _-_, _≤_, _<_}
-use native.Mathlib.Nat.{mul-div-le, mul-le-mul-left}
+use mathlib.Core.List.{List}
+use Prim.Native.Nat.{ℕ, _+_, _*_, _-_, _≤_}
 use native.Mathlib.Omega.{arith}
-use lib.ListN.{length, getD, take, drop, length-drop}
-use lib.Seq.{length-take-le}
+use lib.ListN.{length, take, drop}
 use borrow.Author.Needs.{needs}
-use Rattle.rules.specs.Lists.{Key, cut}
-use Rattle.lists.proofs.Tables.{cut-entry}
+use Rattle.rules.specs.Lists.{Key}
 use Rattle.numbering.specs.declared.parts.Tally.{Tally}
 use Rattle.numbering.specs.declared.parts.Tally.the-variants.{Keys, Full}
 use Rattle.numbering.specs.Parts.{cellCorners, partCorners, partKeys, Numbering, Tallied}
 use Rattle.numbering.proofs.Places.{few-parts}
+use Rattle.numbering.proofs.Passes.{entry-end, entry-is, entry-length}
 use Rattle.numbering.proofs.parts.meet_cell.Statement.{statement}
 use Rattle.numbering.proofs.parts.meet_cell.Tie as tie
-
--- where entry i of k elements ends
-entry-end : (k i : ℕ) (xs : List ℕ) → i < length xs / k → k * i + k ≤ length xs
-entry-end k i xs l = omega (arith, mul-div-le (length xs) k, mul-le-mul-left k l)
-
--- what is lent of the table
-entry-is : (k i : ℕ) (xs : List ℕ) → i < length xs / k → take (k * i + k - k * i) (drop (k * i) xs) ≡ getD (cut k xs) i []
-entry-is k i xs l =
-    let e : k * i + k - k * i ≡ k = omega arith in
-    ap (λ (n : ℕ). take n (drop (k * i) xs)) e ∙ sym (cut-entry k i xs [] l)
-
-entry-length : (k i : ℕ) (xs : List ℕ) → i < length xs / k → length (take (k * i + k - k * i) (drop (k * i) xs)) ≡ k
-entry-length k i xs l =
-    length-take-le (k * i + k - k * i) (drop (k * i) xs) (omega (arith, length-drop (k * i) xs, entry-end k i xs l)) ∙ omega arith
 
 -- the numbers are not asked for
 tallied : (c : ℕ) (w w′ : List ℕ) (room n : ℕ) (ks : List Key) (old new : List ℕ) (r : Tally) → Numbering c w w′ room n ks 0 0 old new r → Tallied c w w′ room n ks r

@@ -4,19 +4,16 @@ use mathlib.Core.Path.{_≡_, refl, sym, _∙_}
 use mathlib.Core.List.{List, []}
 use Prim.Native.Nat.{ℕ, _+_, _-_, _^_, _<_}
 use native.Mathlib.Omega.{arith}
-use lib.ListN.{length, getD, length-set, length-map}
+use lib.ListN.{length, getD, length-set}
 use borrow.Author.Needs.{needs}
 use Rattle.rules.specs.Split.{keyAt}
 use Rattle.lists.proofs.Membership.{getD-map}
 use Rattle.numbering.specs.declared.parts.Parts.{Parts}
 use Rattle.numbering.specs.Parts.{placesOf, partCorners, partKeys}
+use Rattle.numbering.proofs.Places.{length-partKeys}
 use Rattle.numbering.proofs.Passes.{Progress, progress-start, progress-turn, progress-full, progress-end}
 use Rattle.numbering.proofs.parts.meet_parts.Statement.{statement}
 use Rattle.numbering.proofs.parts.meet_parts.Tie as tie
-
-length-parts : (parts : Parts) (cell : List ℕ) → length (partKeys parts cell) ≡ length (placesOf parts)
-unfolding partKeys
-length-parts parts cell = length-map (placesOf parts) (keyAt cell)
 
 part-key : (parts : Parts) (cell : List ℕ) (j : ℕ) → j < length (placesOf parts) → keyAt cell (getD (placesOf parts) j []) ≡ getD (partKeys parts cell) j []
 unfolding partKeys
@@ -52,7 +49,7 @@ returns c =
     let x = l .before .before .before .before .before .before .args in
     let m = rw (c .enum-told .given .1) at (c .before .before .before .before .before .before .meet-part .ensures) in
     let u : l .loop .part < length (placesOf (x .parts)) = omega (arith, c .before .before .before .before .before .before .before .before .before .loop-test .taken, l .before .count-of .ensures) in
-    progress-full (l .loop .inv .3) (part-key (x .parts) (x .cell .now) (l .loop .part) u) (omega (arith, length-parts (x .parts) (x .cell .now))) (m .1)
+    progress-full (l .loop .inv .3) (part-key (x .parts) (x .cell .now) (l .loop .part) u) (omega (arith, length-partKeys (x .parts) (x .cell .now))) (m .1)
 
 loop-again : tie.Need-loop-again Inv-loop μ-loop
 loop-again c =
@@ -64,7 +61,7 @@ loop-again c =
       d .meet-part .kept .0 ∙ l .loop .inv .0,
       d .meet-part .kept .1 .1 .1 .1 .1 .1 .0 ∙ l .loop .inv .1,
       simp length-set (l .loop .inv .2),
-      progress-turn (l .loop .inv .3) m (part-key (x .parts) (x .cell .now) (l .loop .part) u) (omega (arith, length-parts (x .parts) (x .cell .now))),
+      progress-turn (l .loop .inv .3) m (part-key (x .parts) (x .cell .now) (l .loop .part) u) (omega (arith, length-partKeys (x .parts) (x .cell .now))),
     )
 
 pub meet-parts-spec : {M : Type 1} → statement M
@@ -93,4 +90,4 @@ meet-parts-spec =
     (λ c. c .before .loop .inv .0)
     (λ c. c .before .loop .inv .1)
     (λ c. c .before .loop .inv .2)
-    (λ c. let a = c .before .before .before .before .before .before .before .args in progress-end (c .before .loop .inv .3) (omega (arith, length-parts (a .parts) (a .cell .now), c .before .before .count-of .ensures))))
+    (λ c. let a = c .before .before .before .before .before .before .before .args in progress-end (c .before .loop .inv .3) (omega (arith, length-partKeys (a .parts) (a .cell .now), c .before .before .count-of .ensures))))

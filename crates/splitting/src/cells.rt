@@ -1,0 +1,287 @@
+// A cell's fine vertices, numbered as its edges and faces are met, and its children. Edges and faces have a table each in the lent words:
+// the edges' table takes the first 4 E + 1, the faces' table the next 6 F + 1.
+use crate::kinds;
+use numbering::parts;
+ghost use mathlib.Core.Path.{_≡_};
+ghost use mathlib.Core.List.{[], _++_};
+ghost use Prim.Native.Nat.{_+_, _*_, _/_, _^_, _≤_, _<_};
+ghost use lib.ListN.{length, getD};
+ghost use lib.Seq.{sets};
+ghost use Rattle.rules.specs.Lists.{meetAll};
+ghost use Rattle.rules.specs.Mesh.{smallestTable};
+ghost use Rattle.numbering.specs.Table.{keys, Table};
+ghost use Rattle.numbering.specs.Parts.{placesOf, partCorners, cellCorners, partKeys, Numbered};
+ghost use Rattle.splitting.specs.Kinds.{kindOf, cornerCount, edgesOf, facesOf};
+ghost use Rattle.splitting.specs.Cells.{cellsIn, entryOf, edgesMet, facesMet, picked, childCorners};
+ghost use Rattle.splitting.specs.Words.{facesAt, edgeWords, faceWords, Room, BothMet, CellNumbered, CellSplit, TableSplit};
+
+// V, E and F of the mesh: behind the old vertices come those of the edges, then those of the faces.
+pub struct Base {
+    pub vertices: usize,
+    pub edges: usize,
+    pub faces: usize,
+}
+
+// How many edges and faces have been met.
+pub struct Known {
+    pub edges: usize,
+    pub faces: usize,
+}
+
+// Meets the parts of a cell in a table that has room for them all: `meet_parts` of the numbering, which cannot answer `Full` here.
+fn number_parts(
+    w: &mut [u32],
+    room: usize,
+    n: usize,
+    of: parts::Parts,
+    cell: &[u32],
+    base: usize,
+    key: &mut [u32],
+    numbers: &mut [u32],
+    to: usize,
+) -> usize
+    requires { ⌜ Table (partCorners of) (now w) room n ⌝ }
+    requires { ⌜ length (meetAll (keys (partCorners of) (now w) room n) (partKeys of (now cell))) ≤ room ⌝ }
+    requires { ⌜ length (now cell) ≡ cellCorners of ⌝ }
+    requires { ⌜ length (now key) ≡ partCorners of ⌝ }
+    requires { ⌜ base + room ≤ 2 ^ 32 ⌝ }
+    requires { ⌜ to + length (placesOf of) ≤ length (now numbers) ⌝ }
+    ensures { λ r.
+        ⌜ Numbered (partCorners of) (now (w .entry)) (now (w .exit)) room n (partKeys of (now (cell .entry))) base to
+        (now (numbers .entry)) (now (numbers .exit)) r ⌝ }
+{
+    let met = parts::meet_parts(w, room, n, of, cell, base, key, numbers, to);
+    let parts::Tally::Keys(count) = met else {
+        return n;
+    };
+    count
+}
+
+// Meets the edges of a cell in their table, and writes the numbers of their vertices to `numbers` from `to` on.
+fn number_edges(
+    w: &mut [u32],
+    base: Base,
+    n: usize,
+    kind: kinds::CellKind,
+    cell: &[u32],
+    numbers: &mut [u32],
+    to: usize,
+) -> usize
+    requires { ⌜ Table 2 (edgeWords base (now w)) (base .edges) n ⌝ }
+    requires { ⌜ length (meetAll (keys 2 (edgeWords base (now w)) (base .edges) n) (partKeys (edgesOf kind) (now cell))) ≤ base .edges ⌝ }
+    requires { ⌜ length (now cell) ≡ cornerCount kind ⌝ }
+    requires { ⌜ base .vertices + base .edges ≤ 2 ^ 32 ⌝ }
+    requires { ⌜ to + length (placesOf (edgesOf kind)) ≤ length (now numbers) ⌝ }
+    ensures { λ r.
+        ⌜ Numbered 2 (edgeWords base (now (w .entry))) (edgeWords base (now (w .exit))) (base .edges) n
+        (partKeys (edgesOf kind) (now (cell .entry))) (base .vertices) to (now (numbers .entry)) (now (numbers .exit)) r ⌝ }
+    ensures { λ _. ⌜ faceWords base (now (w .exit)) ≡ faceWords base (now (w .entry)) ⌝ }
+{
+    let mut key = [0u32; 2];
+    let of = kinds::edges_of(kind);
+    let end = 4 * base.edges + 1;
+    number_parts(
+        &mut w[..end],
+        base.edges,
+        n,
+        of,
+        cell,
+        base.vertices,
+        &mut key,
+        numbers,
+        to,
+    )
+}
+
+// The same of the faces, in their table.
+fn number_faces(
+    w: &mut [u32],
+    base: Base,
+    n: usize,
+    kind: kinds::CellKind,
+    cell: &[u32],
+    numbers: &mut [u32],
+    to: usize,
+) -> usize
+    requires { ⌜ facesAt base ≤ length (now w) ⌝ }
+    requires { ⌜ Table 4 (faceWords base (now w)) (base .faces) n ⌝ }
+    requires { ⌜ length (meetAll (keys 4 (faceWords base (now w)) (base .faces) n) (partKeys (facesOf kind) (now cell))) ≤ base .faces ⌝ }
+    requires { ⌜ length (now cell) ≡ cornerCount kind ⌝ }
+    requires { ⌜ base .vertices + base .edges + base .faces ≤ 2 ^ 32 ⌝ }
+    requires { ⌜ to + length (placesOf (facesOf kind)) ≤ length (now numbers) ⌝ }
+    ensures { λ r.
+        ⌜ Numbered 4 (faceWords base (now (w .entry))) (faceWords base (now (w .exit))) (base .faces) n
+        (partKeys (facesOf kind) (now (cell .entry))) (base .vertices + base .edges) to (now (numbers .entry)) (now (numbers .exit)) r ⌝ }
+    ensures { λ _. ⌜ edgeWords base (now (w .exit)) ≡ edgeWords base (now (w .entry)) ⌝ }
+{
+    let mut key = [0u32; 4];
+    let of = kinds::faces_of(kind);
+    let start = 4 * base.edges + 1;
+    number_parts(
+        &mut w[start..],
+        base.faces,
+        n,
+        of,
+        cell,
+        base.vertices + base.edges,
+        &mut key,
+        numbers,
+        to,
+    )
+}
+
+// Meets the edges and faces of a cell, and writes the numbers of its fine vertices to the front of `numbers`: its corners, its edges, its
+// faces, its own.
+fn cell_numbers(
+    w: &mut [u32],
+    base: Base,
+    n: Known,
+    kind: kinds::CellKind,
+    cell: &[u32],
+    own: usize,
+    numbers: &mut [u32],
+) -> Known
+    requires { ⌜ Room base (now w) n (partKeys (edgesOf kind) (now cell)) (partKeys (facesOf kind) (now cell)) ⌝ }
+    requires { ⌜ length (now cell) ≡ cornerCount kind ⌝ }
+    requires { ⌜ base .vertices + base .edges + base .faces ≤ 2 ^ 32 ⌝ }
+    requires { ⌜ own < 2 ^ 32 ⌝ }
+    requires { ⌜ 27 ≤ length (now numbers) ⌝ }
+    ensures { λ r.
+        ⌜ BothMet base (now (w .entry)) (now (w .exit)) n (partKeys (edgesOf kind) (now (cell .entry)))
+        (partKeys (facesOf kind) (now (cell .entry))) r ⌝ }
+    ensures { λ _.
+        ⌜ CellNumbered base (now (w .entry)) n kind (now (cell .entry)) own (now (numbers .entry)) (now (numbers .exit)) ⌝ }
+{
+    memory::copy_u32(cell, numbers);
+    let edges_to = cell.len();
+    let edges = number_edges(w, base, n.edges, kind, cell, numbers, edges_to);
+    let faces_to = edges_to + parts::count_of(kinds::edges_of(kind));
+    let faces = number_faces(w, base, n.faces, kind, cell, numbers, faces_to);
+    let own_to = faces_to + parts::count_of(kinds::faces_of(kind));
+    numbers[own_to] = own as u32;
+    Known {
+        edges: edges,
+        faces: faces,
+    }
+}
+
+// Writes the corners of child i of a cell, from the numbers of its parts, to `out` from `at` on.
+fn child(kind: kinds::CellKind, numbers: &[u32], i: usize, out: &mut [u32], at: usize)
+    requires { ⌜ i < cornerCount kind ⌝ }
+    requires { ⌜ 27 ≤ length (now numbers) ⌝ }
+    requires { ⌜ at + cornerCount kind ≤ length (now out) ⌝ }
+    ensures { λ _.
+        ⌜ now (out .exit) ≡ sets (now (out .entry)) at (picked (now (numbers .entry)) (getD (smallestTable (kindOf kind)) i [])) ⌝ }
+{
+    let corners = kinds::corner_count(kind);
+    let mut j = 0;
+    while j < corners {
+        let part = kinds::smallest(kind, i, j);
+        out[at + j] = numbers[part];
+        j += 1;
+    }
+}
+
+// Writes the corners of all children of a cell.
+fn children(kind: kinds::CellKind, numbers: &[u32], out: &mut [u32], at: usize)
+    requires { ⌜ 27 ≤ length (now numbers) ⌝ }
+    requires { ⌜ at + cornerCount kind * cornerCount kind ≤ length (now out) ⌝ }
+    ensures { λ _. ⌜ now (out .exit) ≡ sets (now (out .entry)) at (childCorners (kindOf kind) (now (numbers .entry))) ⌝ }
+{
+    let corners = kinds::corner_count(kind);
+    let mut i = 0;
+    while i < corners {
+        child(kind, numbers, i, out, at + corners * i);
+        i += 1;
+    }
+}
+
+// Meets a cell, given by its corner numbers, and writes the corners of its children to `out` from `at` on.
+fn split_cell(
+    w: &mut [u32],
+    base: Base,
+    n: Known,
+    kind: kinds::CellKind,
+    cell: &[u32],
+    own: usize,
+    out: &mut [u32],
+    at: usize,
+) -> Known
+    requires { ⌜ Room base (now w) n (partKeys (edgesOf kind) (now cell)) (partKeys (facesOf kind) (now cell)) ⌝ }
+    requires { ⌜ length (now cell) ≡ cornerCount kind ⌝ }
+    requires { ⌜ base .vertices + base .edges + base .faces ≤ 2 ^ 32 ⌝ }
+    requires { ⌜ own < 2 ^ 32 ⌝ }
+    requires { ⌜ at + cornerCount kind * cornerCount kind ≤ length (now out) ⌝ }
+    ensures { λ r.
+        ⌜ BothMet base (now (w .entry)) (now (w .exit)) n (partKeys (edgesOf kind) (now (cell .entry)))
+        (partKeys (facesOf kind) (now (cell .entry))) r ⌝ }
+    ensures { λ _.
+        ⌜ CellSplit base (now (w .entry)) n kind (now (cell .entry)) own at (now (out .entry)) (now (out .exit)) ⌝ }
+{
+    let mut numbers = [0u32; 27];
+    let more = cell_numbers(w, base, n, kind, cell, own, &mut numbers);
+    children(kind, &numbers, out, at);
+    more
+}
+
+// Splits cell number i of a flat table: its corner numbers are fetched once, and handed on.
+fn split_entry(
+    w: &mut [u32],
+    base: Base,
+    n: Known,
+    kind: kinds::CellKind,
+    cells: &[u32],
+    i: usize,
+    own: usize,
+    out: &mut [u32],
+) -> Known
+    requires { ⌜ Room base (now w) n (partKeys (edgesOf kind) (entryOf kind (now cells) i)) (partKeys (facesOf kind) (entryOf kind (now cells) i)) ⌝ }
+    requires { ⌜ i < length (now cells) / cornerCount kind ⌝ }
+    requires { ⌜ base .vertices + base .edges + base .faces ≤ 2 ^ 32 ⌝ }
+    requires { ⌜ own < 2 ^ 32 ⌝ }
+    requires { ⌜ cornerCount kind * (cornerCount kind * (i + 1)) ≤ length (now out) ⌝ }
+    ensures { λ r.
+        ⌜ BothMet base (now (w .entry)) (now (w .exit)) n (partKeys (edgesOf kind) (entryOf kind (now (cells .entry)) i))
+        (partKeys (facesOf kind) (entryOf kind (now (cells .entry)) i)) r ⌝ }
+    ensures { λ _.
+        ⌜ CellSplit base (now (w .entry)) n kind (entryOf kind (now (cells .entry)) i) own (cornerCount kind * (cornerCount kind * i))
+        (now (out .entry)) (now (out .exit)) ⌝ }
+{
+    let corners = kinds::corner_count(kind);
+    let at = corners * i;
+    let end = at + corners;
+    let mut cell = [0u32; 8];
+    memory::copy_u32(&cells[at..end], &mut cell);
+    split_cell(w, base, n, kind, &cell[..corners], own, out, corners * at)
+}
+
+// Splits all cells of a flat table. Their own vertices are numbered from `own` on; only those of hexes are among the children's corners.
+pub fn split_cells(
+    w: &mut [u32],
+    base: Base,
+    n: Known,
+    kind: kinds::CellKind,
+    cells: &[u32],
+    own: usize,
+    out: &mut [u32],
+) -> Known
+    requires { ⌜ Room base (now w) n (edgesMet kind (cellsIn kind (now cells))) (facesMet kind (cellsIn kind (now cells))) ⌝ }
+    requires { ⌜ base .vertices + base .edges + base .faces ≤ 2 ^ 32 ⌝ }
+    requires { ⌜ own + length (now cells) / cornerCount kind ≤ 2 ^ 32 ⌝ }
+    requires { ⌜ cornerCount kind * (cornerCount kind * (length (now cells) / cornerCount kind)) ≤ length (now out) ⌝ }
+    ensures { λ r.
+        ⌜ BothMet base (now (w .entry)) (now (w .exit)) n (edgesMet kind (cellsIn kind (now (cells .entry))))
+        (facesMet kind (cellsIn kind (now (cells .entry)))) r ⌝ }
+    ensures { λ _.
+        ⌜ TableSplit base (now (w .entry)) n kind (now (cells .entry)) own (length (now (cells .entry)) / cornerCount kind)
+        (now (out .entry)) (now (out .exit)) ⌝ }
+{
+    let count = cells.len() / kinds::corner_count(kind);
+    let mut known = n;
+    let mut i = 0;
+    while i < count {
+        known = split_entry(w, base, known, kind, cells, i, own + i, out);
+        i += 1;
+    }
+    known
+}
