@@ -9,3 +9,5 @@ pub mod Fields
 pub mod Held
 -- Longest: how long the lines of a mesh can be.
 pub mod Longest
+-- Listed: what is listed of a refusal and of a finished mesh.
+pub mod Listed
