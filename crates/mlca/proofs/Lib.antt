@@ -1,0 +1,5 @@
+-- Laws of this crate.
+-- Numbers: an answer as one number.
+pub mod Numbers
+-- Calls: what the viewer's calls answer and leave, call by call.
+pub mod Calls
