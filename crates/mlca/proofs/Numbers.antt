@@ -1,5 +1,5 @@
 -- An answer as one number: it fits 64 bits, and a refusal comes before any count. Assumes nothing.
-use mathlib.Core.Path.{_≡_, refl, sym, subst}
+use mathlib.Core.Path.{_≡_, refl, sym, subst, _∙_}
 use mathlib.Core.Bool.{Bool, true, false}
 use mathlib.Core.List.{List}
 use Prim.Native.Nat.{ℕ, zero, suc, _/_, _*_, _^_, _≤_, _<_}
@@ -19,7 +19,7 @@ use Rattle.rules.specs.EntryPoints.{countAnswer, irregular, irregularCount, irr
 use Rattle.rules.specs.StoredForm.{storedForm, writingRefusal, writingAnswer}
 use Rattle.rules.specs.Viewer.{andThen, signed}
 use Rattle.lists.proofs.Membership.{length-keep, length-upFrom}
-use Rattle.stored.proofs.Acceptance.{writable}
+use Rattle.stored.proofs.Acceptance.{mesh-passes, passing}
 
 -- ---- below zero
 
@@ -60,7 +60,7 @@ module _ (m : Mesh) (buffer : List ℕ) where
   bytes-fit w l e =
       let k : countAnswer (writingRefusal m (length buffer)) (length (storedForm m)) .count < 2 ^ 63 =
       count-below (writingRefusal m (length buffer)) (length (storedForm m)) (2 ^ 63) (omega arith)
-      (λ h. let s = within _ refl (writable m _ h .1) in omega (arith, l, s)) in
+      (λ h. let s = within _ refl (sym (passing m _ (mesh-passes m _ h)) ∙ h) in omega (arith, l, s)) in
       subst (λ (a : CountAnswer). a .count < 2 ^ 63) (sym e) k
 
 -- no more vertices are irregular than there are

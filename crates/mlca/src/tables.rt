@@ -1,4 +1,4 @@
-// The entry points over tables, for C: refining, reading, writing, the millimetre report.
+// The entry points over tables, for C: refining, reading, writing, the irregular count, the millimetre report.
 use rules::CountAnswer;
 use rules::CountsAnswer;
 use rules::MillimetresAnswer;
@@ -6,7 +6,7 @@ ghost use mathlib.Core.Path.{_≡_};
 ghost use Prim.Native.Nat.{_*_};
 ghost use lib.ListN.{take};
 ghost use Rattle.rules.specs.Mesh.{mesh};
-ghost use Rattle.rules.specs.EntryPoints.{refiningAnswer, refiningOutput, clearedTables, cleared, millimetresAnswer};
+ghost use Rattle.rules.specs.EntryPoints.{refiningAnswer, refiningOutput, clearedTables, cleared, irregularAnswer, millimetresAnswer};
 ghost use Rattle.rules.specs.StoredForm.{storedForm, storedMesh, readingAnswer, readingOutput, writingAnswer, writingOutput};
 ghost use Rattle.accuracy.specs.Property3.{Property3};
 ghost use Rattle.stored.specs.Inverse.{WritesBack, ReadsBack};
@@ -107,6 +107,22 @@ pub extern "C" fn mlca_write_tables(
     ensures inverse { λ r. let m = mesh (now (xs .entry)) (now (hexes .entry)) (now (quads .entry)) (now (segments .entry)) (now (points .entry)) in ⌜ (r .refusal ≡ 0 → ReadsBack m (storedForm m)) ⌝ }
 {
     stored::write(xs, hexes, quads, segments, points, buffer)
+}
+
+// How many vertices are irregular. The working numbers end all zero, and how many there are alters no answer.
+#[no_mangle]
+pub extern "C" fn mlca_irregular_count_tables(
+    xs: &[i32],
+    hexes: &[u32],
+    quads: &[u32],
+    segments: &[u32],
+    points: &[u32],
+    words: &mut [u32],
+) -> CountAnswer
+    ensures answer { λ r. ⌜ r ≡ irregularAnswer (mesh (now (xs .entry)) (now (hexes .entry)) (now (quads .entry)) (now (segments .entry)) (now (points .entry))) ⌝ }
+    ensures words { λ _. ⌜ now (words .exit) ≡ cleared (now (words .entry)) ⌝ }
+{
+    irregular::irregular_count(xs, hexes, quads, segments, points, words)
 }
 
 // A vertex's position in millimetres, each the exact quotient.

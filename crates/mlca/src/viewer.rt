@@ -1,14 +1,18 @@
 // The viewer's calls: a stored mesh in, one number out, which is a refusal's number below zero where there is a refusal. Tables of the
 // fixed sizes, 1,000 vertices and 256 cells of each kind, are local arrays.
 use fixed::refine_stored;
+use irregular::irregular_count;
 use rules::Counts;
+use stored::read;
 use stored::write;
 ghost use mathlib.Core.Path.{_≡_};
 ghost use Prim.Native.Nat.{_^_, _<_};
 ghost use lib.ListN.{length};
-ghost use Rattle.rules.specs.Mesh.{mesh};
+ghost use Rattle.rules.specs.Mesh.{mesh, topology};
+ghost use Rattle.rules.specs.Refusals.{meshChecks};
+ghost use Rattle.rules.specs.EntryPoints.{irregularCount};
 ghost use Rattle.rules.specs.StoredForm.{storedForm, writingRefusal, writingOutput};
-ghost use Rattle.rules.specs.Viewer.{signed, viewerAnswer, viewerOutput};
+ghost use Rattle.rules.specs.Viewer.{signed, viewerAnswer, viewerOutput, viewerIrregularCount};
 ghost use Rattle.fixed.specs.Front.{front, Room};
 
 // An answer as one number.
@@ -82,4 +86,61 @@ pub extern "C" fn mlca_refine(bytes: &[u8], rounds: u32, result: &mut [u8]) -> i
     }
     let c = r.counts;
     write_front(c, &xs, &hexes, &quads, &segments, &points, result)
+}
+
+// The irregular count of the mesh at the front of tables, with as many working numbers as make the checks near-linear.
+fn count_front(
+    c: Counts,
+    xs: &[i32],
+    hexes: &[u32],
+    quads: &[u32],
+    segments: &[u32],
+    points: &[u32],
+) -> i64
+    requires { ⌜ Room c (mesh (now xs) (now hexes) (now quads) (now segments) (now points)) ⌝ }
+    ensures { λ r.
+        let m = front c (mesh (now (xs .entry)) (now (hexes .entry)) (now (quads .entry)) (now (segments .entry)) (now (points .entry))) in
+        ⌜ r ≡ signed (meshChecks m 0) (irregularCount (topology m)) ⌝ }
+{
+    let v = 3 * c.vertices as usize;
+    let h = 8 * c.hexes as usize;
+    let q = 4 * c.quads as usize;
+    let s = 2 * c.segments as usize;
+    let p = c.points as usize;
+    let mut words = [0u32; 12545];
+    let w = irregular_count(
+        &xs[..v],
+        &hexes[..h],
+        &quads[..q],
+        &segments[..s],
+        &points[..p],
+        &mut words,
+    );
+    signed(w.refusal, w.count)
+}
+
+// The irregular count of a stored mesh.
+#[no_mangle]
+pub extern "C" fn mlca_irregular_count(bytes: &[u8]) -> i64
+    ensures { λ r. ⌜ r ≡ viewerIrregularCount (now (bytes .entry)) ⌝ }
+{
+    let mut xs = [0i32; 3000];
+    let mut hexes = [0u32; 2048];
+    let mut quads = [0u32; 1024];
+    let mut segments = [0u32; 512];
+    let mut points = [0u32; 256];
+    let r = read(
+        bytes,
+        &mut xs,
+        &mut hexes,
+        &mut quads,
+        &mut segments,
+        &mut points,
+    );
+    let refusal = r.refusal;
+    if refusal != 0 {
+        return signed(refusal, 0);
+    }
+    let c = r.counts;
+    count_front(c, &xs, &hexes, &quads, &segments, &points)
 }
