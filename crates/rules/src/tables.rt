@@ -1,11 +1,11 @@
 // Document 01's constant tables: edges, faces, and the smallest part for two corners. Each is tested as a whole against the rules by one
-// computed claim.
+// computed claim. Their entries are bytes: a table is copied where it is read, and bytes make that a few stores.
 ghost use mathlib.Core.Path.{_≡_};
 ghost use Prim.Native.Nat.{_<_};
 ghost use Rattle.rules.specs.Mesh.{hex, quad, segment, hexEdges, hexFaces, quadEdges, placeOf, smallestTable};
 
 // The corner places of the edges of a hex.
-const HEX_EDGES: [[usize; 2]; 12] = [
+const HEX_EDGES: [[u8; 2]; 12] = [
     [0, 1],
     [1, 2],
     [2, 3],
@@ -21,7 +21,7 @@ const HEX_EDGES: [[usize; 2]; 12] = [
 ];
 
 // The corner places of the faces of a hex.
-const HEX_FACES: [[usize; 4]; 6] = [
+const HEX_FACES: [[u8; 4]; 6] = [
     [0, 1, 2, 3],
     [4, 5, 6, 7],
     [0, 1, 5, 4],
@@ -31,11 +31,11 @@ const HEX_FACES: [[usize; 4]; 6] = [
 ];
 
 // The corner places of the edges of a quad.
-const QUAD_EDGES: [[usize; 2]; 4] = [[0, 1], [1, 2], [2, 3], [3, 0]];
+const QUAD_EDGES: [[u8; 2]; 4] = [[0, 1], [1, 2], [2, 3], [3, 0]];
 
 // For corners i and j of a hex, the number of the smallest part that holds both among its 27 parts: corners 0 to 7, edges 8 to 19,
 // faces 20 to 25, the hex itself 26.
-const HEX_SMALLEST: [[usize; 8]; 8] = [
+const HEX_SMALLEST: [[u8; 8]; 8] = [
     [0, 8, 20, 11, 16, 22, 26, 25],
     [8, 1, 9, 20, 22, 17, 23, 26],
     [20, 9, 2, 10, 26, 23, 18, 24],
@@ -47,10 +47,16 @@ const HEX_SMALLEST: [[usize; 8]; 8] = [
 ];
 
 // The same for a quad's 9 parts: corners 0 to 3, edges 4 to 7, the quad itself 8.
-const QUAD_SMALLEST: [[usize; 4]; 4] = [[0, 4, 8, 7], [4, 1, 5, 8], [8, 5, 2, 6], [7, 8, 6, 3]];
+const QUAD_SMALLEST: [[u8; 4]; 4] = [[0, 4, 8, 7], [4, 1, 5, 8], [8, 5, 2, 6], [7, 8, 6, 3]];
 
 // The same for a segment's 3 parts: its ends and itself.
-const SEGMENT_SMALLEST: [[usize; 2]; 2] = [[0, 2], [2, 1]];
+const SEGMENT_SMALLEST: [[u8; 2]; 2] = [[0, 2], [2, 1]];
+
+fn wide(x: u8) -> usize
+    ensures { λ r. ⌜ r ≡ x ⌝ }
+{
+    x as usize
+}
 
 // The place of an end of an edge of a hex.
 pub fn hex_edge(edge: usize, end: usize) -> usize
@@ -58,7 +64,7 @@ pub fn hex_edge(edge: usize, end: usize) -> usize
     requires { ⌜ end < 2 ⌝ }
     ensures { λ r. ⌜ r ≡ placeOf hexEdges edge end ⌝ }
 {
-    HEX_EDGES[edge][end]
+    wide(HEX_EDGES[edge][end])
 }
 
 // The place of a corner of a face of a hex.
@@ -67,7 +73,7 @@ pub fn hex_face(face: usize, corner: usize) -> usize
     requires { ⌜ corner < 4 ⌝ }
     ensures { λ r. ⌜ r ≡ placeOf hexFaces face corner ⌝ }
 {
-    HEX_FACES[face][corner]
+    wide(HEX_FACES[face][corner])
 }
 
 // The place of an end of an edge of a quad.
@@ -76,7 +82,7 @@ pub fn quad_edge(edge: usize, end: usize) -> usize
     requires { ⌜ end < 2 ⌝ }
     ensures { λ r. ⌜ r ≡ placeOf quadEdges edge end ⌝ }
 {
-    QUAD_EDGES[edge][end]
+    wide(QUAD_EDGES[edge][end])
 }
 
 // The smallest part of a hex that holds its corners i and j.
@@ -85,7 +91,7 @@ pub fn hex_smallest(i: usize, j: usize) -> usize
     requires { ⌜ j < 8 ⌝ }
     ensures { λ r. ⌜ r ≡ placeOf (smallestTable hex) i j ⌝ }
 {
-    HEX_SMALLEST[i][j]
+    wide(HEX_SMALLEST[i][j])
 }
 
 // The smallest part of a quad that holds its corners i and j.
@@ -94,7 +100,7 @@ pub fn quad_smallest(i: usize, j: usize) -> usize
     requires { ⌜ j < 4 ⌝ }
     ensures { λ r. ⌜ r ≡ placeOf (smallestTable quad) i j ⌝ }
 {
-    QUAD_SMALLEST[i][j]
+    wide(QUAD_SMALLEST[i][j])
 }
 
 // The smallest part of a segment that holds its corners i and j.
@@ -103,5 +109,5 @@ pub fn segment_smallest(i: usize, j: usize) -> usize
     requires { ⌜ j < 2 ⌝ }
     ensures { λ r. ⌜ r ≡ placeOf (smallestTable segment) i j ⌝ }
 {
-    SEGMENT_SMALLEST[i][j]
+    wide(SEGMENT_SMALLEST[i][j])
 }
