@@ -6,6 +6,7 @@ pub mod difference;
 pub mod large;
 pub mod listing;
 pub mod memory;
+pub mod noise;
 pub mod refining;
 pub mod stored;
 pub mod tally;
@@ -30,7 +31,7 @@ pub struct Comparison<'a> {
 pub type Group = fn(&mut Comparison);
 
 /// The groups of cases by name.
-pub const GROUPS: [(&str, Group); 13] = [
+pub const GROUPS: [(&str, Group); 15] = [
     ("samples", refining::samples),
     ("valid meshes", refining::valid_meshes),
     ("damaged meshes", refining::damaged_meshes),
@@ -43,6 +44,8 @@ pub const GROUPS: [(&str, Group); 13] = [
     ("reading damaged files", stored::reading_damaged),
     ("writing", stored::writing),
     ("C path", c_path::c_path),
+    ("noise in tables", noise::tables),
+    ("noise in files", noise::files),
     ("limits of size", large::limits),
 ];
 
