@@ -94,6 +94,7 @@ fn the_oracle_passes_against_itself() {
         "samples",
         "damaged",
         "third",
+        "every",
         "checks",
         "irregular",
         "millimetres",
