@@ -61,9 +61,10 @@ static void stop_if_refused(uint32_t refusal)
     exit(1);
 }
 
+/* Memory that may hold anything. */
 static void *lend(size_t count, size_t size)
 {
-    void *memory = calloc(count, size);
+    void *memory = malloc(count * size);
     if (memory == NULL && count != 0)
         fail("memory", strerror(errno));
     return memory;
