@@ -126,9 +126,14 @@ static struct mesh read_mesh(struct bytes stored)
     return m;
 }
 
-static uint64_t at_most(uint64_t limit, uint64_t count)
+static uint64_t least(uint64_t a, uint64_t b)
 {
-    return count < limit ? count : limit;
+    return a < b ? a : b;
+}
+
+static uint64_t greatest(uint64_t a, uint64_t b)
+{
+    return a < b ? b : a;
 }
 
 /* Counts that the finished mesh does not pass, by the recurrence in mlca.h. */
@@ -144,9 +149,17 @@ static mlca_counts most_finished(mlca_counts c, uint32_t rounds)
         q *= 4;
         s *= 2;
     }
-    mlca_counts most = { (uint32_t)at_most(MLCA_MOST_VERTICES, v), (uint32_t)at_most(MLCA_MOST_CELLS, h),
-                         (uint32_t)at_most(MLCA_MOST_CELLS, q), (uint32_t)at_most(MLCA_MOST_CELLS, s), c.points };
+    mlca_counts most = { (uint32_t)least(MLCA_MOST_VERTICES, v), (uint32_t)least(MLCA_MOST_CELLS, h),
+                         (uint32_t)least(MLCA_MOST_CELLS, q), (uint32_t)least(MLCA_MOST_CELLS, s), c.points };
     return most;
+}
+
+/* As many 32-bit numbers as the finished mesh can need, and as make the checks of the mesh near-linear. */
+static size_t most_numbers32(mlca_counts c, mlca_counts most)
+{
+    uint64_t edges = 48 * (uint64_t)c.hexes + 16 * (uint64_t)c.quads + 4 * (uint64_t)c.segments;
+    uint64_t quick = 1 + greatest(edges, greatest(c.vertices, 3 * (uint64_t)c.points));
+    return (size_t)greatest(8 * (uint64_t)most.vertices, quick);
 }
 
 /* A mesh beyond the sizes of mlca_refine: by tables, with as much memory as the finished mesh can need. */
@@ -155,7 +168,7 @@ static struct mesh refine_large(struct bytes stored, uint32_t rounds)
     struct mesh mesh = read_mesh(stored);
     mlca_counts most = most_finished(mesh.counts, rounds);
     struct mesh output = lend_tables(most), working = lend_tables(most);
-    size_t len32 = 8 * (size_t)most.vertices, len64 = 3 * (size_t)most.vertices;
+    size_t len32 = most_numbers32(mesh.counts, most), len64 = 3 * (size_t)most.vertices;
     uint32_t *numbers32 = lend(len32, sizeof *numbers32);
     uint64_t *numbers64 = lend(len64, sizeof *numbers64);
     mlca_counts_answer answer = mlca_refine_tables(TABLES(mesh), rounds, TABLES(output), TABLES(working),

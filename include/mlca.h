@@ -3,10 +3,10 @@
    A mesh is five tables of numbers: vertices (3 coordinates each), hexes (8 corners each), quads (4), segments (2) and
    points (1). A corner is a vertex number, counted from 0. A stored mesh is the same as a string of bytes.
 
-   A table or buffer is a pointer and the count of numbers it points to: not of bytes, and not of entries. With a length
-   of 0 the pointer may be null. The caller promises that every length is honest and that no buffer that is written to
-   overlaps another one. Nothing else is asked: whatever the bytes, numbers and lengths are, the call comes back with an
-   answer.
+   A table or buffer is a pointer and a length: how many numbers a table has, not how many entries; how many bytes a
+   string of bytes has. With a length of 0 the pointer may be null. The caller promises that every length is honest and
+   that no buffer that is written to overlaps another one. Nothing else is asked: whatever the bytes, numbers and lengths
+   are, the call comes back with an answer.
 
    No function allocates, keeps a pointer, reads or writes a file, or has a state. Several threads may call at once if
    they share no buffer that is written to. The archive needs no library besides C's. */
