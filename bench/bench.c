@@ -1,21 +1,19 @@
 /* Times whole calls of the archive's kernel and of the plain C baseline on the same meshes, checks that the
    results agree, and prints both with their ratio. `bench 9` takes the best of nine calls. */
 #define _POSIX_C_SOURCE 199309L
+#include "entries.h"
 #include "meshes.h"
-#include "mlca.h"
 
 #include <stdio.h>
 #include <stdlib.h>
 #include <string.h>
 #include <time.h>
 
-MLCA_DECLARE(baseline_)
 #ifdef WITHOUT_KERNEL
 #define KERNELS 1
 #define KERNEL(entry) NULL
 #else
 #define KERNELS 2
-MLCA_DECLARE(mlca_)
 #define KERNEL(entry) mlca_##entry
 #endif
 

@@ -1,20 +1,26 @@
 /* The entry points of the plain C kernel: baseline_, or mlca_ when it is to stand in for the archive. */
 #include "baseline.h"
-#include "mlca.h"
+#include "entries.h"
 
 #include <string.h>
 
 #ifdef AS_ARCHIVE
 #define NAME(entry) mlca_##entry
-MLCA_DECLARE(mlca_)
 #else
 #define NAME(entry) baseline_##entry
-MLCA_DECLARE(baseline_)
 #endif
 
-/* Tables of the C path. */
-#define PLACES 1000
-#define CELLS 256
+/* Tables of the calls on stored meshes. */
+#define PLACES MLCA_STORED_VERTICES
+#define CELLS MLCA_STORED_CELLS
+
+/* The parameters for five tables. */
+#define TABLES(access, name) \
+    access int32_t *name##_vertices, size_t name##_vertices_len, \
+    access uint32_t *name##_hexes, size_t name##_hexes_len, \
+    access uint32_t *name##_quads, size_t name##_quads_len, \
+    access uint32_t *name##_segments, size_t name##_segments_len, \
+    access uint32_t *name##_points, size_t name##_points_len
 
 /* A mesh is never written to, but shares its type with tables that are. */
 #define TABLES_OF(name) \
@@ -38,8 +44,8 @@ static void clear_tables(const struct tables *t)
         memset(t->cells[d], 0, t->cells_len[d] * sizeof *t->cells[d]);
 }
 
-mlca_counts_answer NAME(refine_tables)(MLCA_TABLES(const, mesh), uint32_t rounds, MLCA_TABLES(, output),
-                                       MLCA_TABLES(, working), uint32_t *numbers32, size_t numbers32_len,
+mlca_counts_answer NAME(refine_tables)(TABLES(const, mesh), uint32_t rounds, TABLES(, output),
+                                       TABLES(, working), uint32_t *numbers32, size_t numbers32_len,
                                        uint64_t *numbers64, size_t numbers64_len)
 {
     const struct tables mesh = TABLES_OF(mesh);
@@ -52,14 +58,14 @@ mlca_counts_answer NAME(refine_tables)(MLCA_TABLES(const, mesh), uint32_t rounds
     return counts_answer(refusal, &finished);
 }
 
-mlca_counts_answer NAME(read_tables)(const uint8_t *bytes, size_t bytes_len, MLCA_TABLES(, output))
+mlca_counts_answer NAME(read_tables)(const uint8_t *bytes, size_t bytes_len, TABLES(, output))
 {
     struct tables room = TABLES_OF(output);
     struct sizes sizes = { 0 };
     return counts_answer(plain_read_stored(bytes, bytes_len, &room, &sizes), &sizes);
 }
 
-mlca_count_answer NAME(write_tables)(MLCA_TABLES(const, mesh), uint8_t *buffer, size_t buffer_len)
+mlca_count_answer NAME(write_tables)(TABLES(const, mesh), uint8_t *buffer, size_t buffer_len)
 {
     const struct tables mesh = TABLES_OF(mesh);
     mlca_count_answer answer = { 0, 0 };
@@ -67,7 +73,7 @@ mlca_count_answer NAME(write_tables)(MLCA_TABLES(const, mesh), uint8_t *buffer, 
     return answer;
 }
 
-mlca_count_answer NAME(irregular_count_tables)(MLCA_TABLES(const, mesh), uint32_t *numbers, size_t numbers_len)
+mlca_count_answer NAME(irregular_count_tables)(TABLES(const, mesh), uint32_t *numbers, size_t numbers_len)
 {
     const struct tables mesh = TABLES_OF(mesh);
     mlca_count_answer answer = { 0, 0 };

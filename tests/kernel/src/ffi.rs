@@ -2,6 +2,7 @@
 
 use crate::answers::{CountAnswer, CountsAnswer, MillimetresAnswer};
 use crate::entries::{Kernel, Lent};
+use crate::fence::{next_side, Fenced, FencedMesh};
 use crate::mesh::Mesh;
 
 extern "C" {
@@ -97,39 +98,48 @@ extern "C" {
     ) -> CountAnswer;
 }
 
-/// The kernel in the linked archive. Every pointer below comes with the length of the slice it points into,
-/// and no two of them overlap.
+/// The kernel in the linked archive. Every pointer below comes with the length of the memory it points to, no two of
+/// them overlap, and all of it is fenced.
 pub struct Archive;
 
 impl Kernel for Archive {
     #[rustfmt::skip]
     fn refine(&self, mesh: &Mesh, rounds: u32, lent: &mut Lent) -> CountsAnswer {
-        let Lent { output, working, numbers32, numbers64 } = lent;
-        unsafe {
+        let side = next_side();
+        let m = FencedMesh::given(mesh, side);
+        let [output, working] = [&lent.output, &lent.working].map(|tables| FencedMesh::lent(tables, side));
+        let numbers32 = Fenced::lent(&lent.numbers32, side);
+        let numbers64 = Fenced::lent(&lent.numbers64, side);
+        let answer = unsafe {
             mlca_refine_tables(
-                mesh.vertices.as_ptr(), mesh.vertices.len(), mesh.hexes.as_ptr(), mesh.hexes.len(),
-                mesh.quads.as_ptr(), mesh.quads.len(), mesh.segments.as_ptr(), mesh.segments.len(),
-                mesh.points.as_ptr(), mesh.points.len(), rounds,
-                output.vertices.as_mut_ptr(), output.vertices.len(), output.hexes.as_mut_ptr(), output.hexes.len(),
-                output.quads.as_mut_ptr(), output.quads.len(), output.segments.as_mut_ptr(), output.segments.len(),
-                output.points.as_mut_ptr(), output.points.len(),
-                working.vertices.as_mut_ptr(), working.vertices.len(), working.hexes.as_mut_ptr(), working.hexes.len(),
-                working.quads.as_mut_ptr(), working.quads.len(), working.segments.as_mut_ptr(), working.segments.len(),
-                working.points.as_mut_ptr(), working.points.len(),
-                numbers32.as_mut_ptr(), numbers32.len(), numbers64.as_mut_ptr(), numbers64.len(),
+                m.vertices.at, m.vertices.len, m.hexes.at, m.hexes.len, m.quads.at, m.quads.len,
+                m.segments.at, m.segments.len, m.points.at, m.points.len, rounds,
+                output.vertices.at, output.vertices.len, output.hexes.at, output.hexes.len, output.quads.at, output.quads.len,
+                output.segments.at, output.segments.len, output.points.at, output.points.len,
+                working.vertices.at, working.vertices.len, working.hexes.at, working.hexes.len, working.quads.at, working.quads.len,
+                working.segments.at, working.segments.len, working.points.at, working.points.len,
+                numbers32.at, numbers32.len, numbers64.at, numbers64.len,
             )
-        }
+        };
+        output.give_back(&mut lent.output);
+        working.give_back(&mut lent.working);
+        numbers32.give_back(&mut lent.numbers32);
+        numbers64.give_back(&mut lent.numbers64);
+        answer
     }
 
     #[rustfmt::skip]
     fn irregular_count(&self, mesh: &Mesh, working: &mut [u32]) -> CountAnswer {
-        unsafe {
+        let side = next_side();
+        let (m, numbers) = (FencedMesh::given(mesh, side), Fenced::lent(working, side));
+        let answer = unsafe {
             mlca_irregular_count_tables(
-                mesh.vertices.as_ptr(), mesh.vertices.len(), mesh.hexes.as_ptr(), mesh.hexes.len(),
-                mesh.quads.as_ptr(), mesh.quads.len(), mesh.segments.as_ptr(), mesh.segments.len(),
-                mesh.points.as_ptr(), mesh.points.len(), working.as_mut_ptr(), working.len(),
+                m.vertices.at, m.vertices.len, m.hexes.at, m.hexes.len, m.quads.at, m.quads.len,
+                m.segments.at, m.segments.len, m.points.at, m.points.len, numbers.at, numbers.len,
             )
-        }
+        };
+        numbers.give_back(working);
+        answer
     }
 
     fn millimetres(&self, [x, y, z]: [i32; 3]) -> MillimetresAnswer {
@@ -138,32 +148,42 @@ impl Kernel for Archive {
 
     #[rustfmt::skip]
     fn read(&self, bytes: &[u8], tables: &mut Mesh) -> CountsAnswer {
-        unsafe {
+        let side = next_side();
+        let (stored, t) = (Fenced::given(bytes, side), FencedMesh::lent(tables, side));
+        let answer = unsafe {
             mlca_read_tables(
-                bytes.as_ptr(), bytes.len(),
-                tables.vertices.as_mut_ptr(), tables.vertices.len(), tables.hexes.as_mut_ptr(), tables.hexes.len(),
-                tables.quads.as_mut_ptr(), tables.quads.len(), tables.segments.as_mut_ptr(), tables.segments.len(),
-                tables.points.as_mut_ptr(), tables.points.len(),
+                stored.at, stored.len, t.vertices.at, t.vertices.len, t.hexes.at, t.hexes.len, t.quads.at, t.quads.len,
+                t.segments.at, t.segments.len, t.points.at, t.points.len,
             )
-        }
+        };
+        t.give_back(tables);
+        answer
     }
 
     #[rustfmt::skip]
     fn write(&self, mesh: &Mesh, buffer: &mut [u8]) -> CountAnswer {
-        unsafe {
+        let side = next_side();
+        let (m, result) = (FencedMesh::given(mesh, side), Fenced::lent(buffer, side));
+        let answer = unsafe {
             mlca_write_tables(
-                mesh.vertices.as_ptr(), mesh.vertices.len(), mesh.hexes.as_ptr(), mesh.hexes.len(),
-                mesh.quads.as_ptr(), mesh.quads.len(), mesh.segments.as_ptr(), mesh.segments.len(),
-                mesh.points.as_ptr(), mesh.points.len(), buffer.as_mut_ptr(), buffer.len(),
+                m.vertices.at, m.vertices.len, m.hexes.at, m.hexes.len, m.quads.at, m.quads.len,
+                m.segments.at, m.segments.len, m.points.at, m.points.len, result.at, result.len,
             )
-        }
+        };
+        result.give_back(buffer);
+        answer
     }
 
     fn refine_stored(&self, stored: &[u8], rounds: u32, result: &mut [u8]) -> i64 {
-        unsafe { mlca_refine(stored.as_ptr(), stored.len(), rounds, result.as_mut_ptr(), result.len()) }
+        let side = next_side();
+        let (file, room) = (Fenced::given(stored, side), Fenced::lent(result, side));
+        let answer = unsafe { mlca_refine(file.at, file.len, rounds, room.at, room.len) };
+        room.give_back(result);
+        answer
     }
 
     fn irregular_count_stored(&self, stored: &[u8]) -> i64 {
-        unsafe { mlca_irregular_count(stored.as_ptr(), stored.len()) }
+        let file = Fenced::given(stored, next_side());
+        unsafe { mlca_irregular_count(file.at, file.len) }
     }
 }

@@ -12,6 +12,7 @@ pub mod checks;
 pub mod compare;
 pub mod entries;
 pub mod exact;
+pub mod fence;
 #[cfg(mlca_linked)]
 pub mod ffi;
 pub mod generate;

@@ -90,7 +90,20 @@ fn run(kernel: Faulty, group: &str) -> (u64, u64) {
 
 #[test]
 fn the_oracle_passes_against_itself() {
-    for group in ["samples", "damaged", "third", "checks", "irregular", "millimetres", "reading", "writing", "C path"] {
+    let groups = [
+        "samples",
+        "damaged",
+        "third",
+        "every",
+        "checks",
+        "irregular",
+        "millimetres",
+        "reading",
+        "writing",
+        "C path",
+        "noise",
+    ];
+    for group in groups {
         let (failed, cases) = run(None, group);
         assert!(failed == 0 && cases > 100, "{group}: {failed} of {cases} failed");
     }

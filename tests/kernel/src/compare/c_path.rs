@@ -20,8 +20,24 @@ pub fn c_path(comparison: &mut Comparison) {
         comparison.irregular_count_stored(&stored);
     }
     beyond_the_tables(comparison);
+}
+
+/// The file and the result buffer from length 0 up.
+pub fn every_length(comparison: &mut Comparison) {
+    for mesh in [p1(), p5(), p6(), p7(), p8(), p9(), p12(), lone_point([1, 2, 3])] {
+        let stored = encode(&mesh);
+        for rounds in 0..3 {
+            let needed = refine_within(&stored, rounds, FIXED_PLACES).map_or(0, |mesh| encode(&mesh).len());
+            for length in 0..needed + 3 {
+                comparison.refine_stored(&stored, rounds, &vec![7; length]);
+            }
+        }
+        for length in 0..stored.len() {
+            comparison.refine_stored(&stored[..length], 1, &[7; 400]);
+            comparison.irregular_count_stored(&stored[..length]);
+        }
+    }
     for length in 0..110 {
-        comparison.refine_stored(&encode(&p1()), 2, &vec![7; length]);
         comparison.refine_stored(&vec![16; length], 1, &[7; 40]);
     }
 }

@@ -43,12 +43,17 @@ pub fn limits(comparison: &mut Comparison) {
     }
 }
 
-/// A call with enough memory, and the irregular count of the same mesh.
+/// A call with enough memory, and the irregular count of the same mesh. The 32-bit numbers are as many as include/mlca.h
+/// asks for near-linear checks: with 0 rounds, what is merely enough can make them compare each face with each other.
 fn accepted(comparison: &mut Comparison, mesh: &Mesh, rounds: u32) {
     let mut random = Random::new(92);
     let finished = check_refining(mesh, rounds).expect("within the limits");
-    comparison.refine(mesh, rounds, &lent::enough(finished, &mut random));
-    comparison.irregular_count(mesh, &lent::noisy_numbers(8 * finished[0], &mut random));
+    let [v, h, q, s, p] = mesh.places();
+    let quick = 1 + v.max(48 * h + 16 * q + 4 * s).max(3 * p);
+    let mut memory = lent::enough(finished, &mut random);
+    memory.numbers32 = lent::noisy_numbers(memory.numbers32.len().max(quick), &mut random);
+    comparison.refine(mesh, rounds, &memory);
+    comparison.irregular_count(mesh, &lent::noisy_numbers(quick.max(2 * v), &mut random));
 }
 
 /// The greatest valences at the limits of range: sums of the greatest size.

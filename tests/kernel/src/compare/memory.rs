@@ -25,6 +25,24 @@ pub fn every_length(comparison: &mut Comparison) {
     }
 }
 
+/// Each table of a mesh cut to every length, at the entry points that take a mesh.
+pub fn every_length_of_tables(comparison: &mut Comparison) {
+    let mut random = Random::new(43);
+    for mesh in [p1(), p5(), p6(), p7(), p8(), p9(), p12()] {
+        let finished = check_refining(&mesh, 1).expect("a sound mesh");
+        let memory = lent::with_lengths(lent::needed_lengths(finished), &mut random);
+        for table in 0..5 {
+            for length in 0..lent::needed_lengths(mesh.places())[table] {
+                let mut cut = mesh.clone();
+                lent::cut_table(&mut cut, table, length);
+                comparison.refine(&cut, 1, &memory);
+                comparison.irregular_count(&cut, &memory.numbers32);
+                comparison.write(&cut, &[9; 200]);
+            }
+        }
+    }
+}
+
 fn sweep(comparison: &mut Comparison, mesh: &Mesh, rounds: u32, random: &mut Random) {
     let needed = lent::needed_lengths(check_refining(mesh, rounds).expect("a sound mesh"));
     for buffer in 0..lent::BUFFERS {

@@ -6,6 +6,7 @@ pub mod difference;
 pub mod large;
 pub mod listing;
 pub mod memory;
+pub mod noise;
 pub mod refining;
 pub mod stored;
 pub mod tally;
@@ -30,12 +31,15 @@ pub struct Comparison<'a> {
 pub type Group = fn(&mut Comparison);
 
 /// The groups of cases by name.
-pub const GROUPS: [(&str, Group); 13] = [
+pub const GROUPS: [(&str, Group); 18] = [
     ("samples", refining::samples),
     ("valid meshes", refining::valid_meshes),
     ("damaged meshes", refining::damaged_meshes),
     ("third property", refining::third_property),
     ("every length of lent memory", memory::every_length),
+    ("every length of a mesh's tables", memory::every_length_of_tables),
+    ("every length of tables to read into", stored::every_length),
+    ("every length on the C path", c_path::every_length),
     ("checks in short memory", memory::checks_in_short_memory),
     ("irregular counts", counting::irregular_counts),
     ("millimetres", counting::millimetres),
@@ -43,6 +47,8 @@ pub const GROUPS: [(&str, Group); 13] = [
     ("reading damaged files", stored::reading_damaged),
     ("writing", stored::writing),
     ("C path", c_path::c_path),
+    ("noise in tables", noise::tables),
+    ("noise in files", noise::files),
     ("limits of size", large::limits),
 ];
 

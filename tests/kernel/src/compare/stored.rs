@@ -21,6 +21,22 @@ pub fn reading(comparison: &mut Comparison) {
     }
 }
 
+/// Each table in turn from length 0 to beyond its need, the others just long enough.
+pub fn every_length(comparison: &mut Comparison) {
+    let mut random = Random::new(61);
+    for mesh in [p1(), p5(), p6(), p7(), p8(), p9(), p12(), p11(257)] {
+        let bytes = encode(&mesh);
+        let needed = lent::needed_lengths(mesh.places());
+        for table in 0..5 {
+            for length in 0..needed[table] + 3 {
+                let mut lengths = [needed[0], needed[1], needed[2], needed[3], needed[4]];
+                lengths[table] = length;
+                comparison.read(&bytes, &lent::noisy_tables(lengths, &mut random));
+            }
+        }
+    }
+}
+
 pub fn reading_damaged(comparison: &mut Comparison) {
     for case in 0..6000 * comparison.scale {
         let mut random = Random::new(7_000_000 + case);

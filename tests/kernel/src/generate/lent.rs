@@ -42,6 +42,14 @@ pub fn noisy_tables(lengths: [usize; 5], random: &mut Random) -> Mesh {
     }
 }
 
+/// Cuts one of five tables, in the order vertices, hexes, quads, segments, points, to a length in numbers.
+pub fn cut_table(mesh: &mut Mesh, table: usize, length: usize) {
+    match table {
+        0 => mesh.vertices.truncate(length),
+        _ => mesh.cells_mut(4 - table).truncate(length),
+    }
+}
+
 /// Enough memory, with or without a rest beyond what is needed.
 pub fn enough(finished: [usize; 5], random: &mut Random) -> Lent {
     let rest = random.pick(&[0, 1, 7, 30]);

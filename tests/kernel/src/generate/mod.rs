@@ -6,6 +6,7 @@ pub mod damage;
 pub mod files;
 pub mod lattice;
 pub mod lent;
+pub mod noise;
 pub mod relabel;
 pub mod shapes;
 pub mod wild;
