@@ -1,5 +1,6 @@
 /* Times whole calls of the archive's kernel and of the plain C baseline on the same meshes, checks that the
-   results agree, and prints both with their ratio. `bench 9` takes the best of nine calls. */
+   results agree, and prints both with their ratio. `bench 9 grid` takes the best of nine calls, and the rows whose
+   names have `grid` in them. */
 #define _POSIX_C_SOURCE 199309L
 #include "entries.h"
 #include "meshes.h"
@@ -18,6 +19,7 @@
 #endif
 
 static int calls = 5;
+static const char *chosen = "";
 static int disagreements;
 
 static __typeof__(&baseline_refine_tables) const refine_tables[2] = { baseline_refine_tables, KERNEL(refine_tables) };
@@ -120,6 +122,8 @@ static void bench_refining(const char *name, const struct tables *mesh, uint32_t
 
 static void bench_stored(const char *name, const struct tables *mesh)
 {
+    if (strstr(name, chosen) == NULL)
+        return;
     struct sizes s = sizes_of(mesh);
     size_t room = 20 * 1000000;
     uint8_t *bytes[2] = { calloc(room, 1), calloc(room, 1) };
@@ -152,7 +156,8 @@ static void refine_once(const char *name, struct tables mesh, uint32_t rounds, b
 {
     if (relabelled)
         relabel(&mesh);
-    bench_refining(name, &mesh, rounds);
+    if (strstr(name, chosen) != NULL)
+        bench_refining(name, &mesh, rounds);
     free_tables(&mesh);
 }
 
@@ -188,6 +193,7 @@ int main(int count, char **words)
 {
     struct tables large = grid(62, 63, 63, true), small = grid(6, 8, 10, true);
     calls = count > 1 ? atoi(words[1]) : calls;
+    chosen = count > 2 ? words[2] : chosen;
     printf("%-34s %2s %8s %8s %9s %8s", "best of several whole calls", "n", "vertices", "cells", "C ms", "ns/cell");
     if (KERNELS == 2)
         printf(" %9s %8s %7s", "kernel ms", "ns/cell", "ratio");
