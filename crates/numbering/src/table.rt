@@ -34,13 +34,15 @@ fn slot(room: usize, key: &[u32]) -> usize
     ensures { λ r. ⌜ r ≡ slotOf room (now (key .entry)) ⌝ }
 {
     let mut h = 0;
+    let mut s = 0;
     let mut i = 0;
     while i < key.len() {
-        let x = key[i];
-        h = (h + wide(x)) * 1640531527 % 4294967296;
+        let x = wide(key[i]);
+        h = (h + x) * 1640531527 % 4294967296;
+        s = (s + x) % 4294967296;
         i += 1;
     }
-    h * (room + 1) / 4294967296
+    (4 * s + h / 1048576) % (room + 1)
 }
 
 // Whether the key stands in the list from `at` on.
