@@ -1,18 +1,21 @@
 -- The places of the parts' corners: as many as a part has corners, each below the cell's count. Assumes nothing.
-use mathlib.Core.Path.{_≡_}
+use mathlib.Core.Path.{_≡_, ap, _∙_}
 use mathlib.Core.List.{List, []}
-use Prim.Native.Nat.{ℕ, _≤_, _<_}
+use Prim.Native.Nat.{ℕ, _*_, _/_, _≤_, _<_}
+use native.Mathlib.Nat.{mul-div-le, mul-le-mul-left}
 use native.Mathlib.Omega.{arith}
 use lib.ListN.{length, getD, length-map}
-use Rattle.rules.specs.Lists.{upFrom}
+use Rattle.rules.specs.Lists.{upFrom, cut}
 use Rattle.rules.specs.Mesh.{singles, whole, byDimension, places, placeOf}
 use Rattle.rules.specs.Split.{keyAt}
 use Rattle.lists.specs.Membership.{In}
 use Rattle.lists.proofs.Membership.{getD-in}
+use Rattle.lists.proofs.Once.{length-concatMap}
+use Rattle.lists.proofs.Tables.{length-cut}
 use Rattle.lists.proofs.Decide.{computed, decBoth, decEach, decNumber, decBelow}
 use Rattle.numbering.specs.declared.parts.Parts.{Parts}
 use Rattle.numbering.specs.declared.parts.Parts.the-variants.{HexEdges, HexFaces, Hexes, QuadEdges, Quads, Segments, SegmentFaces, Points}
-use Rattle.numbering.specs.Parts.{placesOf, partCorners, cellCorners, partKeys}
+use Rattle.numbering.specs.Parts.{placesOf, partCorners, cellCorners, partKeys, tableKeys}
 
 -- a part of c corners of a cell of n
 abbrev Part : ℕ → ℕ → List ℕ → Type 0
@@ -53,6 +56,18 @@ few-parts Segments = omega arith
 few-parts SegmentFaces = omega arith
 few-parts Points = omega arith
 
+-- and at most twice as many as corners
+parts-by-corners : (parts : Parts) → length (placesOf parts) ≤ 2 * cellCorners parts
+unfolding places byDimension singles upFrom
+parts-by-corners HexEdges = omega arith
+parts-by-corners HexFaces = omega arith
+parts-by-corners Hexes = omega arith
+parts-by-corners QuadEdges = omega arith
+parts-by-corners Quads = omega arith
+parts-by-corners Segments = omega arith
+parts-by-corners SegmentFaces = omega arith
+parts-by-corners Points = omega arith
+
 -- a part has at most 8 corners
 pub small-parts : (parts : Parts) → partCorners parts ≤ 8
 small-parts HexEdges = omega arith
@@ -78,3 +93,14 @@ some-corners Points = omega arith
 pub length-partKeys : (parts : Parts) (cell : List ℕ) → length (partKeys parts cell) ≡ length (placesOf parts)
 unfolding partKeys
 length-partKeys parts cell = length-map (placesOf parts) (keyAt cell)
+
+pub length-tableKeys : (parts : Parts) (cells : List ℕ) → length (tableKeys parts cells) ≡ length (placesOf parts) * (length cells / cellCorners parts)
+unfolding tableKeys
+length-tableKeys parts cells =
+    length-concatMap (partKeys parts) (length (placesOf parts)) (cut (cellCorners parts) cells) (λ cell _. length-partKeys parts cell)
+    ∙ ap (λ (n : ℕ). length (placesOf parts) * n) (length-cut (cellCorners parts) cells)
+
+pub few-keys : (parts : Parts) (cells : List ℕ) → length (tableKeys parts cells) ≤ 2 * length cells
+few-keys parts cells =
+    let k = cellCorners parts in
+    omega (arith, length-tableKeys parts cells, mul-le-mul-left (length cells / k) (parts-by-corners parts), mul-div-le (length cells) k)
