@@ -1,6 +1,6 @@
 -- The parts of cells that are numbered, and what numbering them answers.
 use mathlib.Core.Path.{_≡_}
-use mathlib.Core.List.{List, [], _∷_, _++_, map}
+use mathlib.Core.List.{List, _++_, map}
 use Prim.Native.Nat.{ℕ, _+_, _^_, _<_}
 use lib.ListN.{length, getD}
 use lib.Seq.{sets}

@@ -4,7 +4,7 @@ ghost use Prim.Native.Nat.{_+_, _^_, _≤_, _<_};
 ghost use lib.ListN.{length, replicate};
 ghost use lib.Seq.{sets};
 ghost use Rattle.rules.specs.Lists.{same, indexOf, overwritten};
-ghost use Rattle.numbering.specs.Table.{run, slotOf, wordsFor, keys, Table, Met};
+ghost use Rattle.numbering.specs.Table.{run, slotOf, keys, Table, Met};
 ghost use Rattle.numbering.specs.Meeting.{Answered};
 
 // What meeting a key answers: the key's number and the count of keys; or that it is new and there is no room for it.

@@ -1,5 +1,5 @@
 -- `numbering::count::count_edges` meets its contract: three tables, met one after the other. Assumes nothing.
-use mathlib.Core.Path.{_≡_, _∙_, subst}
+use mathlib.Core.Path.{_∙_, subst}
 use mathlib.Core.List.{List, append-assoc}
 use Prim.Native.Nat.{_+_, _*_, _≤_}
 use native.Mathlib.Omega.{arith}

@@ -1,11 +1,11 @@
 -- `numbering::parts::listed` meets its contract. The invariant: the first i places are listed. Assumes nothing.
-use mathlib.Core.Path.{_≡_, sym, ap, _∙_}
-use Prim.Native.Nat.{ℕ, _*_, _/_, _%_, _-_, _<_}
+use mathlib.Core.Path.{_≡_, sym, _∙_}
+use Prim.Native.Nat.{_*_, _-_, _<_}
 use native.Mathlib.Omega.{arith}
 use lib.ListN.{length, getD}
 use borrow.Author.Needs.{needs}
 use Rattle.memory.proofs.Stores.{Storing, store-start, front-turn}
-use Rattle.numbering.specs.Parts.{placesOf, partCorners, placesListed}
+use Rattle.numbering.specs.Parts.{placesListed}
 use Rattle.numbering.proofs.Rows.{at-front}
 use Rattle.numbering.proofs.Places.{some-part, length-listed, few-listed, part-of, listed-place, listed-within, few-corners}
 use Rattle.numbering.proofs.parts.listed.Statement.{statement}

@@ -1,8 +1,7 @@
 -- `numbering::parts::meet_parts` meets its contract. The invariant is `Progress`: the first parts have been met, their places are stored.
 -- Assumes nothing.
 use mathlib.Core.Path.{_≡_, refl, sym, _∙_}
-use mathlib.Core.List.{List}
-use Prim.Native.Nat.{ℕ, _+_, _*_, _/_, _-_, _^_, _≤_, _<_}
+use Prim.Native.Nat.{_+_, _*_, _/_, _-_, _^_, _≤_, _<_}
 use native.Mathlib.Omega.{arith}
 use lib.ListN.{length, length-set}
 use borrow.Author.Needs.{needs}

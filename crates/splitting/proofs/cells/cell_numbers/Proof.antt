@@ -11,7 +11,7 @@ use Rattle.rules.specs.Lists.{meetAll}
 use Rattle.numbering.specs.Parts.{placesOf, partKeys, Within, listedKeys}
 use Rattle.numbering.proofs.Places.{length-partKeys}
 use Rattle.memory.proofs.Stores.{sets-append, sets-front}
-use Rattle.splitting.specs.Kinds.{cornerCount, edgesOf, facesOf}
+use Rattle.splitting.specs.Kinds.{edgesOf, facesOf}
 use Rattle.splitting.specs.Cells.{numbersIn, cellNumbers}
 use Rattle.splitting.specs.Words.{facesAt, edgesIn, facesIn}
 use Rattle.splitting.proofs.KindParts.{numbers-fit, edge-count, face-count, edge-within, face-within, edge-keys, face-keys}

@@ -1,7 +1,7 @@
 -- `splitting::cells::split_cell` meets its contract. Assumes nothing.
 use mathlib.Core.Path.{ap, _∙_}
-use mathlib.Core.List.{List, _++_}
-use Prim.Native.Nat.{ℕ, _+_}
+use mathlib.Core.List.{List}
+use Prim.Native.Nat.{ℕ}
 use native.Mathlib.Omega.{arith}
 use lib.Seq.{sets}
 use borrow.Author.Needs.{needs}
