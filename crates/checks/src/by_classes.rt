@@ -1,4 +1,5 @@
-// Checks 6 and 7 and the counts of edges and faces, class by class; with too little memory for that, part by part.
+// Checks 6 and 7 and the counts of edges and faces, class by class; with too little memory for that, part by part. A count is asked for
+// where a table of all keys was full: it begins with two classes.
 use crate::classes;
 use crate::classes::Verdict;
 use crate::classes::Walk;
@@ -21,7 +22,7 @@ pub fn has_duplicate(words: &mut [u32], k: usize, cells: &[u32]) -> bool
     ensures { λ r. ⌜ r ≡ repeats same (map keyOf (cut k (now (cells .entry)))) ⌝ }
 {
     let mut key = [0u32; 8];
-    let found = classes::find(words, Walk::Cells, cells, cells, cells, &mut key[..k]);
+    let found = classes::find(words, Walk::Cells, cells, cells, cells, &mut key[..k], 2);
     let Verdict::Passes(n) = found else {
         return pairwise::has_duplicate(k, cells);
     };
@@ -39,7 +40,7 @@ pub fn has_mismatched_face(
     ensures { λ r. ⌜ r ≡ mismatchedFace (topology (mesh [] (now (hexes .entry)) (now (quads .entry)) (now (segments .entry)) [])) ⌝ }
 {
     let mut key = [0u32; 4];
-    let found = classes::find(words, Walk::Rings, hexes, quads, segments, &mut key);
+    let found = classes::find(words, Walk::Rings, hexes, quads, segments, &mut key, 1);
     match found {
         Verdict::Passes(_) => false,
         Verdict::Fails => true,
@@ -53,7 +54,7 @@ pub fn edge_count(words: &mut [u32], hexes: &[u32], quads: &[u32], segments: &[u
     ensures { λ r. ⌜ r ≡ length (distinct (map keyOf (metIn 1 (now (hexes .entry)) (now (quads .entry)) (now (segments .entry))))) ⌝ }
 {
     let mut key = [0u32; 2];
-    let found = classes::find(words, Walk::Edges, hexes, quads, segments, &mut key);
+    let found = classes::find(words, Walk::Edges, hexes, quads, segments, &mut key, 2);
     let Verdict::Passes(n) = found else {
         return pairwise::count_distinct(1, hexes, quads, segments);
     };
@@ -66,7 +67,7 @@ pub fn face_count(words: &mut [u32], hexes: &[u32], quads: &[u32], segments: &[u
     ensures { λ r. ⌜ r ≡ length (distinct (map keyOf (metIn 2 (now (hexes .entry)) (now (quads .entry)) (now (segments .entry))))) ⌝ }
 {
     let mut key = [0u32; 4];
-    let found = classes::find(words, Walk::Faces, hexes, quads, segments, &mut key);
+    let found = classes::find(words, Walk::Faces, hexes, quads, segments, &mut key, 2);
     let Verdict::Passes(n) = found else {
         return pairwise::count_distinct(2, hexes, quads, segments);
     };

@@ -71,6 +71,9 @@ fn class_of(corners: &[u32], classes: usize) -> usize
     requires { ⌜ (length (now corners) ≤ 8) × (classes ≤ 1024) ⌝ }
     ensures { λ r. ⌜ r ≡ classOf classes (now (corners .entry)) ⌝ }
 {
+    if classes == 1 {
+        return 0;
+    }
     let mut sum = 0;
     let mut i = 0;
     while i < corners.len() {
@@ -180,7 +183,7 @@ fn sweep_all(
     Verdict::Passes(n)
 }
 
-// Goes over all of them, in 1, 2, 4, .. 1024 classes until each class fits the memory.
+// Goes over all of them, in `fewest` classes, twice as many and so on up to 1024, until each class fits the memory.
 pub fn find(
     w: &mut [u32],
     of: Walk,
@@ -188,15 +191,17 @@ pub fn find(
     quads: &[u32],
     segments: &[u32],
     key: &mut [u32],
+    fewest: usize,
 ) -> Verdict
     requires { ⌜ Size of (length (now key)) ⌝ }
+    requires { ⌜ 0 < fewest ⌝ }
     ensures { λ r.
         ⌜ Found of (walked of (length (now (key .entry))) (now (hexes .entry)) (now (quads .entry)) (now (segments .entry))) r ⌝ }
 {
     if w.len() == 0 {
         return Verdict::Unknown;
     }
-    let mut classes = 1;
+    let mut classes = fewest;
     while classes <= 1024 {
         let found = sweep_all(w, of, hexes, quads, segments, key, classes);
         let Verdict::Unknown = found else {

@@ -1,6 +1,7 @@
 -- `checks::by_classes::has_duplicate` meets its contract: by the count of corner sets, or cell by cell. Assumes nothing.
 use mathlib.Core.Path.{_≡_, sym}
 use borrow.Author.Needs.{needs}
+use lib.Dec.{lit<}
 use lib.ListN.{length, take}
 use Rattle.rules.specs.Lists.{cut}
 use Rattle.checks.specs.declared.classes.Walk.the-variants.{Cells}
@@ -29,7 +30,7 @@ has-duplicate-spec =
     (tie.spec
     (λ c. search needs)
     (λ c. sym (key (c .before .before .before .before)))
-    (λ c κs. let s = c .before .before .before .before in rw (key s) (s .pre .0))
+    (λ c κs. let s = c .before .before .before .before in (rw (key s) (s .pre .0), lit< tt))
     (λ c. search needs)
     (λ c κs. search needs)
     (λ c. search needs)

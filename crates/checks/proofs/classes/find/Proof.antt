@@ -8,10 +8,10 @@ use Rattle.checks.proofs.classes.find.Statement.{statement}
 use Rattle.checks.proofs.classes.find.Tie as tie
 
 abbrev Inv-loop : tie.InvT-loop
-Inv-loop w₀ of hexes quads segments key₀ classes₀ w key classes = (length w ≡ length w₀) × (length key ≡ length key₀) × (0 < classes)
+Inv-loop w₀ of hexes quads segments key₀ fewest classes₀ w key classes = (length w ≡ length w₀) × (length key ≡ length key₀) × (0 < classes)
 
 abbrev μ-loop : tie.MeasureT-loop
-μ-loop w₀ of hexes quads segments key₀ classes₀ w key classes = 2048 - classes
+μ-loop w₀ of hexes quads segments key₀ fewest classes₀ w key classes = 2048 - classes
 
 -- where the call began
 abbrev start : tie.At-loop Inv-loop μ-loop → tie.Start Inv-loop μ-loop
@@ -22,7 +22,7 @@ sweep-all-requires c κs =
     let t = c .before .before in
     let l = t .before in
     let s = start l in
-    rw (l .loop .inv .0, l .loop .inv .1) (omega (arith, l .before .if1 .left), (s .pre, (l .loop .inv .2, t .loop-test .taken)))
+    rw (l .loop .inv .0, l .loop .inv .1) (omega (arith, l .before .if1 .left), (s .pre .0, (l .loop .inv .2, t .loop-test .taken)))
 
 -- the loop that a sweep is in
 abbrev loop-of : tie.After-sweep-all Inv-loop μ-loop → tie.At-loop Inv-loop μ-loop
@@ -44,7 +44,7 @@ find-spec =
     Inv-loop
     μ-loop
     (λ c. tt)
-    (λ c. (refl, refl, omega arith))
+    (λ c. (refl, refl, c .before .before .before .before .before .before .pre .1))
     sweep-all-requires
     (λ c. search needs)
     (λ c. let m = c .before .before .before .before .before in m .sweep-all .kept .0 ∙ loop-of m .loop .inv .0)
