@@ -27,10 +27,10 @@ unfoldable pub add : ℕ → Key → ℕ
 add s [] = s
 add s (x ∷ xs) = add ((s + x) % 2 ^ 32) xs
 
--- The slot of a key among room + 1: somewhere in a window of 2 ^ 12 slots that moves with the sum of its numbers. Cells that follow one another
+-- The slot of a key among room + 1: somewhere in a window of 2 ^ 16 slots that moves with the sum of its numbers. Cells that follow one another
 -- name vertices close by, so their keys' slots lie close together and stay in the cache; keys with one sum still have a whole window.
 unfoldable pub slotOf : ℕ → Key → ℕ
-slotOf room k = (4 * add 0 k + mix 0 k / 2 ^ 20) % (room + 1)
+slotOf room k = (4 * add 0 k + mix 0 k / 2 ^ 16) % (room + 1)
 
 -- ---- the layout
 

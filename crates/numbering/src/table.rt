@@ -42,7 +42,7 @@ fn slot(room: usize, key: &[u32]) -> usize
         s = (s + x) % 4294967296;
         i += 1;
     }
-    (4 * s + h / 1048576) % (room + 1)
+    (4 * s + h / 65536) % (room + 1)
 }
 
 // Whether the key stands in the list from `at` on.

@@ -79,7 +79,7 @@ returns c =
     let l = c .before in
     let k = l .before .before .args .key .now in
     let e = drop-of-length-le k {i = l .loop .i} (omega arith) in
-    ap₂ (λ (s h : ℕ). (4 * s + h / 2 ^ 20) % (l .before .before .args .room + 1)) (rw e at (l .loop .inv .4)) (rw e at (l .loop .inv .3))
+    ap₂ (λ (s h : ℕ). (4 * s + h / 2 ^ 16) % (l .before .before .args .room + 1)) (rw e at (l .loop .inv .4)) (rw e at (l .loop .inv .3))
 
 pub slot-spec : {M : Type 1} → statement M
 slot-spec =
