@@ -133,12 +133,12 @@ corners-most point = omega arith
 pub child-total : (κ : Kind) (e at : ℕ → ℕ) (numbered : List Key) (cell : List ℕ) (number : ℕ → ℕ) (i : ℕ) → In i (whole κ)
     → ((j : ℕ) → In j (whole κ) → getD numbered (number j) [] ≡ keyAt cell (smallest κ i j))
     → ((u : ℕ) → u < corners κ → e (getD cell u 0) ≡ at u)
-    → natTotal (cellDraws numbered (map number (whole κ))) e ≡ weighed (getD (weightRows κ) i []) at
+    → natTotal (cellDraws numbered (map number (whole κ))) e ≡ weighed (corners κ) (getD (weightRows κ) i []) at
 unfolding childDraws weighed
 child-total κ e at numbered cell number i h numbers placed-at =
     let inside = draws-inside κ i h in
     let most = corners-most κ in
     corners-total e numbered cell number (smallest κ i) (whole κ) numbers
     ∙ total-same (corners κ) (λ (q : ℕ). e (getD cell q 0)) at (childDraws κ i) inside placed-at
-    ∙ collected 8 at (childDraws κ i) (each-in (λ (t : Draw). t .vertex < 8) (childDraws κ i) .1 (λ t m. let l = each-in (λ (t : Draw). t .vertex < corners κ) (childDraws κ i) .0 inside t m in omega arith))
-    ∙ sumTo-same 8 (λ (u : ℕ). weightAt (childDraws κ i) u * at u) (λ (u : ℕ). getD (getD (weightRows κ) i []) u 0 * at u) (λ u l. ap (λ (w : ℕ). w * at u) (sym (weights-at κ i u (whole-below κ i h) l)))
+    ∙ collected (corners κ) at (childDraws κ i) inside
+    ∙ sumTo-same (corners κ) (λ (u : ℕ). weightAt (childDraws κ i) u * at u) (λ (u : ℕ). getD (getD (weightRows κ) i []) u 0 * at u) (λ u l. ap (λ (w : ℕ). w * at u) (sym (weights-at κ i u (whole-below κ i h) (omega arith))))

@@ -128,7 +128,7 @@ module _ (m : Mesh) (s : Sound (topology m)) (κ : Kind) where
     abbrev at : ℕ → ℕ → ℕ
     at c = cornerCoordinate (corners κ) (table m κ) (corners κ * c) (m .vertices) a
 
-    born-value : (c i : ℕ) → c < length cells → i < n → value m a (born c i) ≡ weighed (getD (weightRows κ) i []) (at c)
+    born-value : (c i : ℕ) → c < length cells → i < n → value m a (born c i) ≡ weighed n (getD (weightRows κ) i []) (at c)
     unfolding child fineVertex cornerCoordinate in-cells
     born-value c i h l =
         let x = in-cells c h in
@@ -137,7 +137,7 @@ module _ (m : Mesh) (s : Sound (topology m)) (κ : Kind) where
         (λ j k. at-index (keyAt (cell c) (smallest κ i j)) (parts t) (part-known t s x (smallest κ i j) (smallest-part κ i w j k)))
         (λ u k. ap (λ (v : ℕ). biased (m .vertices) (3 * v + a)) (corner-at c u h k) ∙ ap (λ (b : Bool). cond b (biased (m .vertices) (3 * getD (table m κ) (n * c + u) 0 + a)) 0) (sym (lt-ltb u n k)))
 
-    child-is : (d c i : ℕ) → c < length cells → i < n → (z : Tally) → childStep n (concat fine) (n * n * c + n * i) d (weighed (getD (weightRows κ) i []) (at c)) f z ≡ visit (value m a) f d (born c i) z
+    child-is : (d c i : ℕ) → c < length cells → i < n → (z : Tally) → childStep n (concat fine) (n * n * c + n * i) d (weighed n (getD (weightRows κ) i []) (at c)) f z ≡ visit (value m a) f d (born c i) z
     unfolding childStep visit
     child-is d c i h l z =
         let v = value m a (born c i) in
@@ -151,7 +151,7 @@ module _ (m : Mesh) (s : Sound (topology m)) (κ : Kind) where
     cell-is : (d c : ℕ) → c < length cells → (z : Tally) → cellStep n (weightRows κ) (at c) (concat fine) (n * n * c) d f z ≡ passed (value m a) f d (children (parts t) κ (cell c)) z
     unfolding cellStep
     cell-is d c h z =
-        repeat-same n (λ (i : ℕ). childStep n (concat fine) (n * n * c + n * i) d (weighed (getD (weightRows κ) i []) (at c))) (λ (i f : ℕ). visit (value m a) f d (getD (children (parts t) κ (cell c)) i [])) f
+        repeat-same n (λ (i : ℕ). childStep n (concat fine) (n * n * c + n * i) d (weighed n (getD (weightRows κ) i []) (at c))) (λ (i f : ℕ). visit (value m a) f d (getD (children (parts t) κ (cell c)) i [])) f
         (λ i l z. child-is d c i h l z ∙ ap (λ (b : List ℕ). visit (value m a) f d b z) (sym (children-at (cell c) i l))) z
         ∙ ap (λ (k : ℕ). repeat k (λ (i f : ℕ). visit (value m a) f d (getD (children (parts t) κ (cell c)) i [])) f z) (sym (length-born (cell c)))
         ∙ fold-places (λ (b : List ℕ) (f : ℕ). visit (value m a) f d b) (children (parts t) κ (cell c)) [] f z

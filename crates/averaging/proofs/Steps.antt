@@ -74,11 +74,11 @@ corner-within d s g f h m t r = go (eqb f g) (leb d (t .rank))
     go false b' = record { few = omega (arith, r .few); small = r .small }
 
 -- what a cell adds depends on its corners' coordinates alone
-pub cell-same : (n : ℕ) (weights : List (List ℕ)) (e e' : ℕ → ℕ) (fine : List ℕ) (base d f : ℕ) → ((u : ℕ) → u < 8 → e u ≡ e' u) → (t : Tally) → cellStep n weights e fine base d f t ≡ cellStep n weights e' fine base d f t
+pub cell-same : (n : ℕ) (weights : List (List ℕ)) (e e' : ℕ → ℕ) (fine : List ℕ) (base d f : ℕ) → ((u : ℕ) → u < n → e u ≡ e' u) → (t : Tally) → cellStep n weights e fine base d f t ≡ cellStep n weights e' fine base d f t
 unfolding cellStep weighed
 cell-same n weights e e' fine base d f h =
-    repeat-same n (λ (i : ℕ). childStep n fine (base + n * i) d (weighed (getD weights i []) e)) (λ (i : ℕ). childStep n fine (base + n * i) d (weighed (getD weights i []) e')) f
-    (λ i l t. ap (λ (s : ℕ). childStep n fine (base + n * i) d s f t) (sumTo-same 8 (λ (u : ℕ). getD (getD weights i []) u 0 * e u) (λ (u : ℕ). getD (getD weights i []) u 0 * e' u) (λ u k. ap (λ (x : ℕ). getD (getD weights i []) u 0 * x) (h u k))))
+    repeat-same n (λ (i : ℕ). childStep n fine (base + n * i) d (weighed n (getD weights i []) e)) (λ (i : ℕ). childStep n fine (base + n * i) d (weighed n (getD weights i []) e')) f
+    (λ i l t. ap (λ (s : ℕ). childStep n fine (base + n * i) d s f t) (sumTo-same n (λ (u : ℕ). getD (getD weights i []) u 0 * e u) (λ (u : ℕ). getD (getD weights i []) u 0 * e' u) (λ u k. ap (λ (x : ℕ). getD (getD weights i []) u 0 * x) (h u k))))
 
 -- ---- tables through steps
 

@@ -22,9 +22,9 @@ gatheredAt gathered a u = getD gathered (3 * u + a) 0
 unfoldable pub cornerCoordinate : ℕ → List ℕ → ℕ → List ℤ → ℕ → ℕ → ℕ
 cornerCoordinate n corners at xs a u = cond (ltb u n) (biased xs (3 * getD corners (at + u) 0 + a)) 0
 
--- The split positions of all corners of a child, summed, in eighths: each corner u of the parent, at e u, has a weight.
-unfoldable pub weighed : List ℕ → (ℕ → ℕ) → ℕ
-weighed row e = sumTo 8 (λ (u : ℕ). getD row u 0 * e u)
+-- The split positions of all corners of a child, summed, in eighths: each of the parent's n corners u, at e u, has a weight.
+unfoldable pub weighed : ℕ → List ℕ → (ℕ → ℕ) → ℕ
+weighed n row e = sumTo n (λ (u : ℕ). getD row u 0 * e u)
 
 -- a child of dimension d with n corners from `at` on, which sum to s
 unfoldable pub childStep : ℕ → List ℕ → ℕ → ℕ → ℕ → ℕ → Tally → Tally
@@ -32,7 +32,7 @@ childStep n fine at d s = repeat n (λ (j : ℕ). cornerStep d s (getD fine (at 
 
 -- the n children of a cell whose corners are at e
 unfoldable pub cellStep : ℕ → List (List ℕ) → (ℕ → ℕ) → List ℕ → ℕ → ℕ → ℕ → Tally → Tally
-cellStep n weights e fine base d = repeat n (λ (i : ℕ). childStep n fine (base + n * i) d (weighed (getD weights i []) e))
+cellStep n weights e fine base d = repeat n (λ (i : ℕ). childStep n fine (base + n * i) d (weighed n (getD weights i []) e))
 
 -- how many cells of n corners stand in a table, and how many corners their children have
 abbrev pub cellCount : ℕ → List ℕ → ℕ

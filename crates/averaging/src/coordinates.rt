@@ -1,6 +1,6 @@
 // Coordinates counted from the least one, -2^29: sums of them are not negative, so that division rounds them toward minus infinity.
 ghost use mathlib.Core.Path.{_≡_};
-ghost use Prim.Native.Nat.{ℕ, _+_, _*_, _<_, _^_};
+ghost use Prim.Native.Nat.{ℕ, _+_, _*_, _≤_, _<_, _^_};
 ghost use lib.ListN.{length, getD};
 ghost use lib.IntN.{pos, _+ℤ_};
 ghost use Rattle.integers.specs.Range.{InRange};
@@ -46,7 +46,7 @@ pub fn vertex_at(table: &[u32], p: usize) -> usize
 // The biased coordinates of the n corners of cell number c, three for each corner.
 pub fn gather(corners: &[u32], n: usize, c: usize, xs: &[i32]) -> [u64; 24]
     requires { ⌜ Coarse n (c + 1) (now corners) (now xs) ⌝ }
-    ensures { λ r. ⌜ ((u a : ℕ) → u < 8 → a < 3 → gatheredAt r a u ≡ cornerCoordinate n (now (corners .entry)) (n * c) (now (xs .entry)) a u) ⌝ }
+    ensures { λ r. ⌜ ((u a : ℕ) → a < 3 → gatheredAt r a u ≡ cornerCoordinate n (now (corners .entry)) (n * c) (now (xs .entry)) a u) ⌝ }
     ensures { λ r. ⌜ ((q : ℕ) → getD r q 0 < 2 ^ 30) ⌝ }
 {
     let at = n * c;
@@ -71,15 +71,15 @@ fn wide(x: u8) -> u64
     x as u64
 }
 
-// The weighed sum on one axis.
-fn weigh(row: &[u8; 8], gathered: &[u64; 24], axis: usize) -> u64
-    requires { ⌜ axis < 3 ⌝ }
+// The weighed sum of n corners on one axis.
+fn weigh(row: &[u8; 8], n: usize, gathered: &[u64; 24], axis: usize) -> u64
+    requires { ⌜ (n ≤ 8) × (axis < 3) ⌝ }
     requires { ⌜ ((q : ℕ) → getD (now gathered) q 0 < 2 ^ 30) ⌝ }
-    ensures { λ r. ⌜ (r ≡ weighed (now (row .entry)) (gatheredAt (now (gathered .entry)) axis)) × (r < 2 ^ 41) ⌝ }
+    ensures { λ r. ⌜ (r ≡ weighed n (now (row .entry)) (gatheredAt (now (gathered .entry)) axis)) × (r < 2 ^ 41) ⌝ }
 {
     let mut total: u64 = 0;
     let mut u = 0;
-    while u < 8 {
+    while u < n {
         let w = wide(row[u]);
         total += w * gathered[3 * u + axis];
         u += 1;
@@ -87,13 +87,14 @@ fn weigh(row: &[u8; 8], gathered: &[u64; 24], axis: usize) -> u64
     total
 }
 
-// The split positions of all corners of a child, summed, in eighths, on each axis.
-pub fn child_sums(row: &[u8; 8], gathered: &[u64; 24]) -> [u64; 3]
+// The split positions of all corners of a child of a cell with n corners, summed, in eighths, on each axis.
+pub fn child_sums(row: &[u8; 8], n: usize, gathered: &[u64; 24]) -> [u64; 3]
+    requires { ⌜ n ≤ 8 ⌝ }
     requires { ⌜ ((q : ℕ) → getD (now gathered) q 0 < 2 ^ 30) ⌝ }
-    ensures { λ r. ⌜ ((a : ℕ) → a < 3 → (getD r a 0 ≡ weighed (now (row .entry)) (gatheredAt (now (gathered .entry)) a)) × (getD r a 0 < 2 ^ 41)) ⌝ }
+    ensures { λ r. ⌜ ((a : ℕ) → a < 3 → (getD r a 0 ≡ weighed n (now (row .entry)) (gatheredAt (now (gathered .entry)) a)) × (getD r a 0 < 2 ^ 41)) ⌝ }
 {
-    let x = weigh(row, gathered, 0);
-    let y = weigh(row, gathered, 1);
-    let z = weigh(row, gathered, 2);
+    let x = weigh(row, n, gathered, 0);
+    let y = weigh(row, n, gathered, 1);
+    let z = weigh(row, n, gathered, 2);
     [x, y, z]
 }

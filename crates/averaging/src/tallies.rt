@@ -95,7 +95,7 @@ fn count_cell(
 {
     let mut i = 0;
     while i < n {
-        let sums = child_sums(&weights[i], gathered);
+        let sums = child_sums(&weights[i], n, gathered);
         count_child(fine, base + n * i, n, d, sums, words, longs);
         i += 1;
     }

@@ -7,11 +7,11 @@ use native.Mathlib.Nat.{add-assoc, add-zero, zero-add, mul-zero, mul-suc}
 use native.Mathlib.Omega.{arith}
 use lib.ListN.{length, getD}
 use lib.Dec.{lit<}
-use lib.Arith.{digits-lt}
 use lib.Pow.{pow-pos, pow-add, split, high, low}
 use Rattle.rules.specs.Bits.{number, firstBits, fieldAt, tableAt, Field, bitsIn, spelled, bytesFor, filling, bytesOf, packed, encode}
 use Rattle.rules.specs.StoredForm.{tableFields}
 use Rattle.bits.specs.Writing.{Bytes, Fit}
+use Rattle.bits.proofs.Shifts.{append-lt}
 use Rattle.bits.proofs.Bytes.{bytes-number}
 use Rattle.bits.proofs.Fields.{first-shr, first-split, first-none, first-packed, bytesFor-ge, length-packed, number-packed, packed-bytes}
 
@@ -38,8 +38,7 @@ spelled-cons f fs = refl
 pub spelled-lt : (fs : List Field) → Fit fs → spelled fs < 2 ^ bitsIn fs
 unfolding spelled bitsIn
 spelled-lt [] h = lit< tt
-spelled-lt (f ∷ fs) h =
-    subst (λ (x : ℕ). f .value * 2 ^ bitsIn fs + spelled fs < x) (sym (pow-add 2 (f .width) (bitsIn fs))) (digits-lt (h .0) (spelled-lt fs (h .1)))
+spelled-lt (f ∷ fs) h = append-lt (f .width) (bitsIn fs) (f .value) (spelled fs) (h .0) (spelled-lt fs (h .1))
 
 pub fit-append : (fs gs : List Field) → Fit fs → Fit gs → Fit (fs ++ gs)
 fit-append [] gs h l = l

@@ -10,6 +10,8 @@ pub mod Encoding
 pub mod Writing
 -- Windows: the few bytes that hold a field.
 pub mod Windows
+-- Waiting: bits that wait to be put, and a table's entries put through them.
+pub mod Waiting
 -- Tables: a table's entries, one by one.
 pub mod Tables
 -- BitList: the definitions by numbers mean what the lists of bits say.

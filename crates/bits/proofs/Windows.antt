@@ -2,14 +2,13 @@
 use Prim.Native.Nat.{ℕ, suc, _+_, _-_, _*_, _/_, _%_, _^_, _≤_, _<_}
 use mathlib.Core.Path.{_≡_, sym, ap, ap₂, _∙_, subst}
 use mathlib.Core.List.{List, [], _∷_, _++_}
-use native.Mathlib.Nat.{mul-assoc, mul-add-mod-self-right, mul-add-div-right, lt-of-lt-of-le}
+use native.Mathlib.Nat.{div-one, mul-assoc, mul-add-mod-self-right, mul-add-div-right, lt-of-lt-of-le}
 use native.Mathlib.Numerals.{add-one}
 use native.Mathlib.Omega.{arith}
 use lib.ListN.{length, take, drop, getD, length-drop, length-take, take-append-drop}
 use lib.Seq.{getD-drop, take-suc, length-take-le, take-add, sets, sets-eq}
-use lib.Arith.{digits-lt}
-use lib.Pow.{pow-pos, pow-add, pow-mono, shl-lt, shr-lt}
-use Rattle.rules.specs.Bits.{number, firstBits, fieldAt, bytesFor, filling, bytesOf, packed}
+use lib.Pow.{pow-pos, pow-add, pow-mono, shl-lt}
+use Rattle.rules.specs.Bits.{number, firstBits, fieldAt, bytesFor, bytesOf, packed}
 use Rattle.bits.specs.Writing.{Bytes, written, putAt}
 use Rattle.bits.proofs.Bytes.{number-nil, number-one, number-append, number-lt, drop-bytes, take-bytes, bytes-number, bytesOf-append, length-bytesOf}
 use Rattle.bits.proofs.Fields.{first-append}
@@ -48,18 +47,19 @@ first-take s to e hs h₁ h₂ =
     ∙ first-append (take to s) (drop to s) e (drop-bytes to s hs) (rw l h₂)
     ∙ ap (λ (n : ℕ). number (take to s) / 2 ^ (8 * n - e)) l
 
--- a field from n bytes that hold it
-pub field-window : (s : List ℕ) (p k from n : ℕ) → Bytes s → from + n ≤ length s → 8 * from ≤ p → p + k ≤ 8 * (from + n)
-    → number (take n (drop from s)) / 2 ^ (8 * (from + n) - (p + k)) % 2 ^ k ≡ fieldAt s p k
+-- a field from n bytes up to byte `to` that hold it
+pub field-window : (s : List ℕ) (p k from n to : ℕ) → Bytes s → to ≡ from + n → to ≤ length s → 8 * from ≤ p → p + k ≤ 8 * to
+    → number (take n (drop from s)) / 2 ^ (8 * to - (p + k)) % 2 ^ k ≡ fieldAt s p k
 unfolding fieldAt
-field-window s p k from n hs h₁ h₂ h₃ =
+field-window s p k from n to hs h h₁ h₂ h₃ =
     let w : List ℕ = take n (drop from s) in
     let a : List ℕ = take from s in
-    let e : ℕ = 8 * (from + n) - (p + k) in
+    let e : ℕ = 8 * to - (p + k) in
     let j : ℕ = p - 8 * from in
     let lw : length w ≡ n = length-take-le n (drop from s) (rw length-drop (omega arith)) in
+    let parts : take to s ≡ a ++ w = ap (λ (x : ℕ). take x s) h ∙ take-add from n s in
     let first : firstBits s (p + k) ≡ (number a * 2 ^ (8 * length w) + number w) / 2 ^ e =
-    first-take s (from + n) (p + k) hs h₁ h₃ ∙ ap (λ (x : List ℕ). number x / 2 ^ e) (take-add from n s) ∙ ap (λ (x : ℕ). x / 2 ^ e) (number-append a w) in
+    first-take s to (p + k) hs h₁ h₃ ∙ ap (λ (x : List ℕ). number x / 2 ^ e) parts ∙ ap (λ (x : ℕ). x / 2 ^ e) (number-append a w) in
     let bits : 8 * length w ≡ j + k + e = omega (arith, lw) in
     let up : number a * 2 ^ (8 * length w) ≡ number a * 2 ^ j * 2 ^ k * 2 ^ e =
     rw (bits, pow-add, pow-add) (omega arith) in
@@ -70,9 +70,16 @@ field-window s p k from n hs h₁ h₂ h₃ =
 
 -- ---- into bytes
 
+-- the first bits of whole bytes
+first-bytes : (d : List ℕ) (from : ℕ) → Bytes d → from ≤ length d → firstBits d (8 * from) ≡ number (take from d)
+first-bytes d from hd h =
+    let none : 8 * from - 8 * from ≡ 0 = omega arith in
+    first-take d from (8 * from) hd h (omega arith)
+    ∙ ap (λ (e : ℕ). number (take from d) / 2 ^ e) none ∙ div-one (number (take from d))
+
 -- the first bits, by whole bytes and the bits of the byte that they end in
-first-byte : (d : List ℕ) (from u : ℕ) → Bytes d → from < length d → u ≤ 8
-    → firstBits d (8 * from + u) ≡ number (take from d) * 2 ^ u + getD d from 0 / 2 ^ (8 - u)
+pub first-byte : (d : List ℕ) (from u : ℕ) → Bytes d → from < length d → u ≤ 8
+    → firstBits d (8 * from + u) ≡ firstBits d (8 * from) * 2 ^ u + getD d from 0 / 2 ^ (8 - u)
 first-byte d from u hd h₁ h₂ =
     let b : ℕ = getD d from 0 in
     let a : List ℕ = take from d in
@@ -86,52 +93,32 @@ first-byte d from u hd h₁ h₂ =
     ∙ ap₂ (λ (n x : ℕ). n / 2 ^ x) whole e
     ∙ ap (λ (n : ℕ). (n + b) / 2 ^ (8 - u)) up
     ∙ mul-add-div-right (pow-pos (8 - u)) (number a * 2 ^ u) b
+    ∙ ap (λ (n : ℕ). n * 2 ^ u + b / 2 ^ (8 - u)) (sym (first-bytes d from hd (omega arith)))
 
--- the u high bits of a byte
-pub high-lt : (b u : ℕ) → b < 256 → u ≤ 8 → b / 2 ^ (8 - u) < 2 ^ u
-high-lt b u hb h =
-    let eight : 8 ≡ u + (8 - u) = omega arith in
-    shr-lt u (8 - u) (subst (λ (n : ℕ). b < 2 ^ n) eight hb)
-
--- Writing a field changes the n bytes that hold it alone: byte `from` keeps its u high bits, and the last ends in f zero bits.
-put-window : (d : List ℕ) (from u k v n f : ℕ) → Bytes d → from < length d → from + n ≤ length d → u ≤ 8 → v < 2 ^ k → bytesFor (8 * from + u + k) ≡ from + n
-    → 8 * from + u + k + f ≡ 8 * (from + n)
-    → sets d from (bytesOf n ((getD d from 0 / 2 ^ (8 - u) * 2 ^ k + v) * 2 ^ f)) ≡ putAt d (8 * from + u) k v
-unfolding putAt written packed
-put-window d from u k v n f hd h₁ h₂ hu hv bt fb =
-    let b : ℕ = getD d from 0 / 2 ^ (8 - u) in
+-- Bits put from a whole byte on change the n bytes that hold them alone, and the last of these ends in zero bits.
+pub put-bytes : (d : List ℕ) (from k v : ℕ) → Bytes d → v < 2 ^ k → 8 * from + k ≤ 8 * length d
+    → let n : ℕ = (k + 7) / 8 in
+    sets d from (bytesOf n (v * 2 ^ (8 * n - k))) ≡ putAt d (8 * from) k v
+unfolding putAt written packed bytesFor
+put-bytes d from k v hd hv room =
+    let n : ℕ = (k + 7) / 8 in
+    let f : ℕ = 8 * n - k in
     let X : ℕ = number (take from d) in
-    let y : ℕ = (b * 2 ^ k + v) * 2 ^ f in
+    let y : ℕ = v * 2 ^ f in
     let ln : length (bytesOf n y) ≡ n = length-bytesOf n y in
-    let ef : filling (8 * from + u + k) ≡ f = omega (arith, bt, fb) in
     let la : length (take from d) ≡ from = length-take-le from d (omega arith) in
-    let bits : u + k + f ≡ 8 * n = omega arith in
-    let hy : y < 2 ^ (8 * n) =
-    subst (λ (e : ℕ). y < 2 ^ e) bits
-    (shl-lt (u + k) f (subst (λ (e : ℕ). b * 2 ^ k + v < e) (sym (pow-add 2 u k)) (digits-lt (high-lt (getD d from 0) u (hd from) hu) hv))) in
-    let value : (firstBits d (8 * from + u) * 2 ^ k + v) * 2 ^ f ≡ X * 2 ^ (8 * n) + y =
-    rw (first-byte d from u hd h₁ hu, ← bits, pow-add, pow-add) (omega arith) in
+    let bt : (8 * from + k + 7) / 8 ≡ from + n = omega arith in
+    let ef : 8 * ((8 * from + k + 7) / 8) - (8 * from + k) ≡ f = omega arith in
+    let bits : k + f ≡ 8 * n = omega arith in
+    let hy : y < 2 ^ (8 * n) = subst (λ (e : ℕ). y < 2 ^ e) bits (shl-lt k f hv) in
+    let up : 2 ^ (8 * n) ≡ 2 ^ k * 2 ^ f = ap (λ (e : ℕ). 2 ^ e) (sym bits) ∙ pow-add 2 k f in
+    let value : (firstBits d (8 * from) * 2 ^ k + v) * 2 ^ f ≡ X * 2 ^ (8 * n) + y =
+    rw (first-bytes d from hd (omega arith), up) (omega arith) in
     let front : bytesOf from X ≡ take from d = ap (λ (e : ℕ). bytesOf e X) (sym la) ∙ bytes-number (take from d) (take-bytes from d hd) in
-    let bytes : bytesOf (from + n) ((firstBits d (8 * from + u) * 2 ^ k + v) * 2 ^ f) ≡ take from d ++ bytesOf n y =
+    let bytes : bytesOf (from + n) ((firstBits d (8 * from) * 2 ^ k + v) * 2 ^ f) ≡ take from d ++ bytesOf n y =
     ap (bytesOf (from + n)) value ∙ bytesOf-append from n X y hy ∙ ap (λ (l : List ℕ). l ++ bytesOf n y) front in
     sets-eq (bytesOf n y) d from (omega (arith, ln))
     ∙ ap (λ (e : ℕ). take from d ++ bytesOf n y ++ drop (from + e) d) ln
     ∙ sym
-    (ap₂ (λ (e g : ℕ). bytesOf e ((firstBits d (8 * from + u) * 2 ^ k + v) * 2 ^ g) ++ drop e d) bt ef
+    (ap₂ (λ (e g : ℕ). bytesOf e ((firstBits d (8 * from) * 2 ^ k + v) * 2 ^ g) ++ drop e d) bt ef
     ∙ ap (λ (l : List ℕ). l ++ drop (from + n) d) bytes)
-
--- a field put by its bytes, as the code has it: from byte at / 8, whose bits before `at` stay
-pub put-bytes : (d : List ℕ) (at k v : ℕ) → Bytes d → 0 < k → v < 2 ^ k → at + k ≤ 8 * length d
-    → let from : ℕ = at / 8 in
-    let n : ℕ = (at + k + 7) / 8 - from in
-    sets d from (bytesOf n ((getD d from 0 / 2 ^ (8 - at % 8) * 2 ^ k + v) * 2 ^ (8 * (from + n) - (at + k)))) ≡ putAt d at k v
-unfolding bytesFor
-put-bytes d at k v hd hk hv room =
-    let from : ℕ = at / 8 in
-    let u : ℕ = at % 8 in
-    let n : ℕ = (at + k + 7) / 8 - from in
-    let f : ℕ = 8 * (from + n) - (at + k) in
-    let here : 8 * from + u ≡ at = omega arith in
-    let bt : bytesFor (8 * from + u + k) ≡ from + n = ap (λ (x : ℕ). bytesFor (x + k)) here ∙ omega arith in
-    put-window d from u k v n f hd (omega arith) (omega arith) (omega arith) hv bt (omega arith)
-    ∙ ap (λ (x : ℕ). putAt d x k v) here

@@ -2,18 +2,18 @@
 use Prim.Native.Nat.{ℕ, _+_, _-_, _*_, _^_, _≤_, _<_}
 use mathlib.Core.Path.{_≡_, refl, sym, ap, ap₂, _∙_, subst}
 use mathlib.Core.List.{List, [], _∷_, _++_, map-append}
-use native.Mathlib.Nat.{add-assoc, add-zero, zero-add}
+use native.Mathlib.Nat.{add-assoc, add-zero, zero-add, mul-zero}
 use native.Mathlib.Numerals.{add-one}
 use native.Mathlib.Omega.{arith}
 use lib.ListN.{length, take, drop, getD}
-use lib.Seq.{drop-drop, drop-append-add, take-suc, length-take-le}
+use lib.Seq.{drop-drop, drop-append-add, take-suc, take-length, length-take-le}
 use lib.Dec.{lit<}
-use lib.Arith.{digits-lt}
 use lib.Pow.{pow-add}
 use Rattle.rules.specs.Lists.{overwritten}
 use Rattle.rules.specs.Bits.{firstBits, Field, bitsIn, spelled, bytesFor, bytesOf, packed, encode}
 use Rattle.rules.specs.StoredForm.{field, tableFields}
 use Rattle.bits.specs.Writing.{Bytes, Fit, written, putAt, putAll}
+use Rattle.bits.proofs.Shifts.{append-lt}
 use Rattle.bits.proofs.Bytes.{drop-bytes}
 use Rattle.bits.proofs.Fields.{first-append, first-packed, bytesFor-ge, bytesFor-mono, length-packed}
 use Rattle.bits.proofs.Encoding.{bitsIn-table, length-encode}
@@ -39,7 +39,7 @@ drop-written d p q v h =
     (ap (λ (l : ℕ). drop (l + m) (packed p v ++ drop (bytesFor p) d)) (sym (length-packed p v))
     ∙ drop-append-add (packed p v) (drop (bytesFor p) d) m ∙ drop-drop m (bytesFor p) d)
 
-put-written : (d : List ℕ) (p v k x : ℕ) → Bytes d → v < 2 ^ p → putAt (written d p v) p k x ≡ written d (p + k) (v * 2 ^ k + x)
+pub put-written : (d : List ℕ) (p v k x : ℕ) → Bytes d → v < 2 ^ p → putAt (written d p v) p k x ≡ written d (p + k) (v * 2 ^ k + x)
 unfolding putAt
 put-written d p v k x hd h =
     rw (first-written d p v hd h)
@@ -54,7 +54,7 @@ putAll-written [] d p v hd h fit = ap₂ (written d) (sym (add-zero p)) (omega a
 putAll-written (f ∷ fs) d p v hd h fit =
     let k : ℕ = f .width in
     ap (λ (l : List ℕ). putAll l (p + k) fs) (put-written d p v k (f .value) hd h)
-    ∙ putAll-written fs d (p + k) (v * 2 ^ k + f .value) hd (subst (λ (x : ℕ). v * 2 ^ k + f .value < x) (sym (pow-add 2 p k)) (digits-lt h (fit .0))) (fit .1)
+    ∙ putAll-written fs d (p + k) (v * 2 ^ k + f .value) hd (append-lt p k v (f .value) h (fit .0)) (fit .1)
     ∙ ap₂ (written d) (add-assoc p k (bitsIn fs)) (rw pow-add (omega arith))
 
 pub put-encode : (fs : List Field) (d : List ℕ) → Bytes d → Fit fs → putAll d 0 fs ≡ overwritten d (encode fs)
@@ -77,6 +77,12 @@ putAll-append (f ∷ fs) gs d p =
 pub put-none : (d t : List ℕ) (at w : ℕ) → d ≡ putAll d at (tableFields w (take 0 t))
 unfolding tableFields putAll
 put-none d t at w = refl
+
+pub put-empty : (d t : List ℕ) (at w : ℕ) → length t ≡ 0 → (at ≡ at + w * length t) × (d ≡ putAll d at (tableFields w t))
+put-empty d t at w e = (
+  omega (arith, mul-zero w, ap (λ (n : ℕ). w * n) e),
+  put-none d t at w ∙ ap (λ (l : List ℕ). putAll d at (tableFields w l)) (ap (λ (n : ℕ). take n t) (sym e) ∙ take-length t),
+)
 
 pub put-step : (d t : List ℕ) (at w i : ℕ) → i < length t
     → putAt (putAll d at (tableFields w (take i t))) (at + w * i) w (getD t i 0) ≡ putAll d at (tableFields w (take (i + 1) t))

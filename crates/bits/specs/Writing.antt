@@ -1,8 +1,9 @@
 -- A buffer into which bit fields are written one behind another.
 use mathlib.Core.List.{List, [], _∷_, _++_}
-use Prim.Native.Nat.{ℕ, _+_, _*_, _^_, _<_}
+use Prim.Native.Nat.{ℕ, _+_, _*_, _^_, _≤_, _<_}
 use lib.ListN.{drop, getD}
 use Rattle.rules.specs.Bits.{firstBits, Field, bytesFor, packed}
+use Rattle.bits.specs.declared.Pending.{Pending}
 
 -- every element is a byte
 abbrev pub Bytes : List ℕ → Type 0
@@ -25,3 +26,17 @@ putAt d p k v = written d (p + k) (firstBits d p * 2 ^ k + v)
 unfoldable pub putAll : List ℕ → ℕ → List Field → List ℕ
 putAll d p [] = d
 putAll d p (f ∷ fs) = putAll (putAt d p (f .width) (f .value)) (p + f .width) fs
+
+-- ---- bits that wait to be put
+
+-- at most 32 bits wait
+abbrev pub Waiting : Pending → Type 0
+Waiting p = (p .count ≤ 32) × (p .bits < 2 ^ p .count)
+
+-- the bit behind them
+abbrev pub endOf : Pending → ℕ
+endOf p = 8 * p .at + p .count
+
+-- the buffer once they are put
+abbrev pub settled : List ℕ → Pending → List ℕ
+settled d p = putAt d (8 * p .at) (p .count) (p .bits)

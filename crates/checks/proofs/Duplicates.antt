@@ -3,10 +3,10 @@ use mathlib.Core.Path.{_≡_, refl, sym, ap, _∙_, subst}
 use mathlib.Core.Bool.{Bool, true, false, not, _||_}
 use mathlib.Core.Logic.{inl, inr, ⊎-elim}
 use mathlib.Core.List.{List, [], _∷_, _++_, map, map-append, map-map, append-nil}
-use Prim.Native.Nat.{ℕ, suc, _<_, _≤_}
+use Prim.Native.Nat.{ℕ, suc, _/_, _<_, _≤_}
 use native.Mathlib.Omega.{arith}
 use lib.Dec.{eqb, lit<}
-use lib.ListN.{length}
+use lib.ListN.{length, length-map}
 use borrow.Author.Tests.{eq-eqb, ne-eqb}
 use Rattle.rules.specs.Lists.{any, repeats, concatMap, cut, upFrom, Key, keyOf, same, distinct}
 use Rattle.rules.specs.Mesh.{Kind, hex, quad, segment, point, corners, whole, singles, places, byDimension}
@@ -17,7 +17,7 @@ use Rattle.lists.proofs.Membership.{concatMap-same}
 use Rattle.lists.proofs.Tests.{false≢true}
 use Rattle.lists.proofs.Keys.{any-key, repeats-once-keys}
 use Rattle.lists.proofs.Distinct.{in-distinct, once-distinct, distinct-once}
-use Rattle.lists.proofs.Tables.{length-entry}
+use Rattle.lists.proofs.Tables.{length-entry, length-cut}
 use Rattle.soundness.proofs.Cells.{key-whole}
 use Rattle.numbering.specs.declared.parts.Parts.{Parts}
 use Rattle.numbering.specs.declared.parts.Parts.the-variants.{HexEdges, HexFaces, Hexes, QuadEdges, Quads, Segments, SegmentFaces, Points}
@@ -51,7 +51,7 @@ shorter (x ∷ ks) h = go (any (same x) ks) refl h (shorter ks)
           all = λ k i. ⊎-elim (λ (p : k ≡ x). inl p) (λ (j : In k ks). inr (r .all k j)) i;
         }
 
-pub repeats-by-count : (ks : List Key) → repeats same ks ≡ not (eqb (length (distinct ks)) (length ks))
+repeats-by-count : (ks : List Key) → repeats same ks ≡ not (eqb (length (distinct ks)) (length ks))
 repeats-by-count ks = go (repeats same ks) refl
   where
     go : (b : Bool) → repeats same ks ≡ b → b ≡ not (eqb (length (distinct ks)) (length ks))
@@ -60,6 +60,12 @@ repeats-by-count ks = go (repeats same ks) refl
         let l = length-within (distinct ks) (r .rest) (once-distinct ks) (λ k i. r .all k (in-distinct ks k i)) in
         sym (ap not (ne-eqb (length (distinct ks)) (length ks) (λ q. omega (arith, r .one-less))))
     go false e = sym (ap not (eq-eqb (length (distinct ks)) (length ks) (ap length (distinct-once ks (repeats-once-keys ks e)))))
+
+-- the same of the cells of a table
+pub duplicates-by-count : (k : ℕ) (cells : List ℕ) (n : ℕ) → n ≡ length (distinct (map keyOf (cut k cells)))
+    → not (eqb n (length cells / k)) ≡ repeats same (map keyOf (cut k cells))
+duplicates-by-count k cells n e =
+    rw (e, sym (length-map (cut k cells) keyOf ∙ length-cut k cells)) (sym (repeats-by-count (map keyOf (cut k cells))))
 
 -- ---- the keys that the numbering counts
 

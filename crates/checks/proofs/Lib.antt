@@ -17,10 +17,12 @@ pub mod Counting
 pub mod Mismatch
 -- Marking: marks of corners.
 pub mod Marking
--- FaceTableLaws: the table of faces.
-pub mod FaceTableLaws
--- FaceWalk: the faces of a mesh, met one after the other.
-pub mod FaceWalk
+-- TaggedLaws: a table of keys with tags.
+pub mod TaggedLaws
+-- ClassLaws: edges, faces or cells in classes.
+pub mod ClassLaws
+-- Sweeps: one class, met one after the other; all classes, one after the other.
+pub mod Sweeps
 -- Duplicates: check 6 and the sizes by counts of distinct keys.
 pub mod Duplicates
 -- Passed: what the first checks let through.

@@ -1,19 +1,26 @@
--- Check 7 by number: two faces of the walk, and the corner across. Assumes nothing.
-use mathlib.Core.Path.{_≡_}
-use mathlib.Core.Bool.{false, not, _&&_}
+-- Check 7 by the corner across: two faces of the walk, and all of them. Assumes nothing.
+use mathlib.Core.Path.{_≡_, ap, _∙_}
+use mathlib.Core.Bool.{true, false, not, _&&_}
 use mathlib.Core.List.{List, []}
 use Prim.Native.Nat.{ℕ, _<_}
 use lib.Dec.{eqb, lit<}
 use lib.ListN.{length, getD, take}
 use lib.Seq.{getD-take}
-use Rattle.rules.specs.Lists.{keyOf, same}
-use Rattle.rules.specs.Mesh.{mesh, topology}
-use Rattle.rules.specs.Refusals.{repeatedCorner, mismatched}
+use borrow.Author.Tests.{eq-eqb, ne-eqb}
+use Rattle.rules.specs.Lists.{any, keyOf, same}
+use Rattle.rules.specs.Mesh.{Topology, mesh, topology}
+use Rattle.rules.specs.Split.{met}
+use Rattle.rules.specs.Refusals.{repeatedCorner, mismatched, mismatchedFace}
+use Rattle.lists.specs.Membership.{In}
 use Rattle.lists.proofs.Membership.{getD-in}
+use Rattle.lists.proofs.Tests.{in-any, in-none, both-and, false-and}
+use Rattle.lists.proofs.Keys.{same-eq, eq-same}
 use Rattle.soundness.specs.Across.{across}
-use Rattle.soundness.proofs.Checks.{mesh-sized}
+use Rattle.soundness.proofs.Checks.{Sized, mesh-sized}
 use Rattle.soundness.proofs.Across.{met-quad, mismatched-across}
+use Rattle.checks.specs.declared.classes.Walk.the-variants.{Rings}
 use Rattle.checks.specs.Walk.{metIn}
+use Rattle.checks.specs.Classes.{Agreeing, Apart}
 
 -- the first four corners are the face
 pub across-take : (f : List ℕ) → across (take 4 f) ≡ across f
@@ -29,3 +36,27 @@ module _ (hs qs ss : List ℕ) (h : repeatedCorner (topology (mesh [] hs qs ss [
       let t = topology (mesh [] hs qs ss []) in
       let z = mesh-sized (mesh [] hs qs ss []) in
       mismatched-across (getD F i []) (getD F j []) (met-quad t z h (getD F i []) (getD-in F i [] k)) (met-quad t z h (getD F j []) (getD-in F j [] l))
+
+-- ---- check 7 by what all faces were found to be
+
+module _ (t : Topology) (z : Sized t) (h₅ : repeatedCorner t ≡ false) where
+  -- two faces of the walk, by the corner across
+  mismatched-in : (f g : List ℕ) → In f (met t 2) → In g (met t 2) → mismatched f g ≡ (same (keyOf f) (keyOf g) && not (eqb (across f) (across g)))
+  mismatched-in f g i j = mismatched-across f g (met-quad t z h₅ f i) (met-quad t z h₅ g j)
+
+  pub apart-mismatched : Apart Rings (met t 2) → mismatchedFace t ≡ true
+  unfolding mismatchedFace
+  apart-mismatched a =
+      let f = a .one in
+      let g = a .other in
+      in-any (λ (f : List ℕ). any (mismatched f) (met t 2)) (met t 2) f (a .one-in)
+      (in-any (mismatched f) (met t 2) g (a .other-in)
+      (mismatched-in f g (a .one-in) (a .other-in)
+      ∙ both-and (same (keyOf f) (keyOf g)) (not (eqb (across f) (across g))) (eq-same (keyOf f) (keyOf g) (a .keys)) (ap not (ne-eqb (across f) (across g) (a .tags)))))
+
+  pub agreeing-matched : {n : ℕ} → Agreeing Rings (met t 2) n → mismatchedFace t ≡ false
+  unfolding mismatchedFace
+  agreeing-matched a =
+      in-none (λ (f : List ℕ). any (mismatched f) (met t 2)) (met t 2)
+      (λ f i. in-none (mismatched f) (met t 2) (λ g j. mismatched-in f g i j
+      ∙ false-and (same (keyOf f) (keyOf g)) (not (eqb (across f) (across g))) (λ e. ap not (eq-eqb (across f) (across g) (a .agree f g i j (same-eq (keyOf f) (keyOf g) e))))))

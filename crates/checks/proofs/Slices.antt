@@ -1,13 +1,15 @@
 -- Parts of a slice that a call is lent, as lists: the rest of a slice, and an entry of a table. Assumes nothing.
 use mathlib.Core.Path.{_≡_, sym, _∙_}
-use mathlib.Core.List.{List, []}
-use Prim.Native.Nat.{ℕ, _+_, _-_, _*_, _/_, _≤_, _<_}
+use mathlib.Core.Logic.{inl, inr}
+use mathlib.Core.List.{List, [], _∷_}
+use Prim.Native.Nat.{ℕ, zero, suc, _+_, _-_, _*_, _/_, _≤_, _<_}
 use native.Mathlib.Nat.{ne-of-lt, le-of-eq, add-sub-cancel-left, mul-div-le, mul-le-mul-left}
 use native.Mathlib.Omega.{arith}
 use lib.ListN.{length, take, drop, getD, set, length-drop, length-set}
 use lib.Seq.{take-all, length-take-le, getD-take, getD-set-same, getD-set-other, ext-getD}
 use borrow.Author.Count.{below-more}
 use Rattle.rules.specs.Lists.{cut}
+use Rattle.lists.specs.Membership.{In}
 use Rattle.lists.proofs.Tables.{cut-entry, length-cut}
 
 module _ {A : Type 0} where
@@ -22,6 +24,20 @@ module _ {A : Type 0} where
 
   pub entry-part : (k c : ℕ) (xs : List A) → c < length (cut k xs) → take (k * c + k - k * c) (drop (k * c) xs) ≡ getD (cut k xs) c []
   entry-part k c xs h = rw (add-sub-cancel-left (k * c) k) (sym (cut-entry k c xs [] (rw (length-cut k xs) at h)))
+
+-- a key before it is read, and its front
+abbrev pub eight : List ℕ
+eight = 0 ∷ 0 ∷ 0 ∷ 0 ∷ 0 ∷ 0 ∷ 0 ∷ 0 ∷ []
+
+pub front-of-eight : (k : ℕ) → k ≤ 8 → length (take k eight) ≡ k
+front-of-eight k h = length-take-le k eight h
+
+-- what is in the front of a list is in the list
+pub take-in : (xs : List (List ℕ)) (i : ℕ) (x : List ℕ) → In x (take i xs) → In x xs
+take-in xs zero x j = absurd j
+take-in [] (suc i) x j = absurd j
+take-in (y ∷ xs) (suc i) x (inl e) = inl e
+take-in (y ∷ xs) (suc i) x (inr j) = inr (take-in xs i x j)
 
 -- ---- a loop that copies a list to the front of another, element by element
 

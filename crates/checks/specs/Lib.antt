@@ -5,5 +5,7 @@ pub mod Walk
 pub mod Held
 -- Marked: what marking the corners of a table leaves in a list of numbers.
 pub mod Marked
--- FaceTable: a table of the faces met so far.
-pub mod FaceTable
+-- Tagged: a table of keys, with a tag for each.
+pub mod Tagged
+-- Classes: edges, faces or cells in classes.
+pub mod Classes

@@ -1,11 +1,11 @@
 // Document 01's checks 1 to 8 over a whole mesh, in order, and the sizes of a mesh that passes them.
 //
 // Rests on `numbering` (tables of keys in lent memory) and on the laws of `lists` and `soundness`. Promises: each check is an equation with
-// its test of `rules`, and the first that fails is the refusal. Checks 6 to 8 and the sizes take lent numbers. The answer never depends on
-// how many there are: where a table of keys is full, each cell or part is compared with each other one instead. They are near-linear
-// with `1 + max(V, 10 H, 6 Q, 4 S, 3 P, 7 (6 H + Q))` numbers, for V vertices, H hexes, Q quads, S segments and P points, and the sizes
-// with `1 + max(4 (12 H + 4 Q + S), 6 (6 H + Q))`; fewer are enough where cells share parts. What the lent numbers hold afterwards is left
-// free.
+// its test of `rules`, and the first that fails is the refusal. Checks 6 to 8 and the sizes take lent numbers, and the answer never depends
+// on how many there are. They are near-linear with `1 + max(V, 10 H, 6 Q, 4 S, 3 P, 7 (6 H + Q))` numbers, for V vertices, H hexes, Q quads,
+// S segments and P points, and the sizes with `1 + max(4 (12 H + 4 Q + S), 6 (6 H + Q))`; fewer are enough where cells share parts. With
+// k times fewer, checks 6 and 7 and the sizes look at the keys class by class, in about k passes. With less than a 1000th, or with none,
+// they compare each cell or part with each other one; so does check 8 with less than V. What the lent numbers hold afterwards is left free.
 use numbering::count;
 use numbering::parts::Parts;
 use numbering::parts::Tally;
@@ -18,16 +18,18 @@ ghost use lib.ListN.{length};
 ghost use Rattle.rules.specs.Lists.{any, repeats, cut, keyOf, same, distinct};
 ghost use Rattle.rules.specs.Mesh.{mesh, topology};
 ghost use Rattle.rules.specs.Counts.{sizes};
-ghost use Rattle.rules.specs.Refusals.{partialEntry, countOutOfRange, cornerOutOfRange, repeatedCorner, duplicateCell, mismatchedFace, isolatedVertex, tableChecks, meshChecks};
+ghost use Rattle.rules.specs.Refusals.{partialEntry, countOutOfRange, cornerOutOfRange, repeatedCorner, duplicateCell, isolatedVertex, tableChecks, meshChecks};
 ghost use Rattle.numbering.specs.Parts.{partCorners, cellCorners};
 ghost use Rattle.checks.specs.Walk.{metIn};
 
+// Checks 6 and 7 and the counts of parts, class by class.
+pub mod by_classes;
 // The cells by themselves: check 5.
 pub mod cells;
+// The classes.
+pub mod classes;
 // The corner across a face's least corner.
 pub mod faces;
-// Check 7 with a table of face keys.
-pub mod hashed;
 // Check 8 with a mark for each vertex.
 pub mod marks;
 // Checks 6 to 8 and the counts of parts with no memory.
@@ -36,6 +38,8 @@ pub mod pairwise;
 pub mod parts;
 // The tables: checks 1 to 4.
 pub mod tables;
+// Tables of keys with tags.
+pub mod tagged;
 
 // Whether two cells of a table have one corner set; the parts are the cells themselves.
 fn has_duplicate(words: &mut [u32], of: Parts, cells: &[u32]) -> bool
@@ -48,7 +52,7 @@ fn has_duplicate(words: &mut [u32], of: Parts, cells: &[u32]) -> bool
     let tally = count::count_table(words, of, cells, &mut key[..k]);
     match tally {
         Tally::Keys(n) => n != cells.len() / k,
-        Tally::Full => pairwise::has_duplicate(k, cells),
+        Tally::Full => by_classes::has_duplicate(words, k, cells),
     }
 }
 
@@ -70,19 +74,6 @@ fn has_duplicate_cell(
         || (has_duplicate(words, Parts::Quads, quads)
             || (has_duplicate(words, Parts::Segments, segments)
                 || has_duplicate(words, Parts::Points, points)))
-}
-
-// 7, document 01: twisted face.
-fn has_mismatched_face(words: &mut [u32], hexes: &[u32], quads: &[u32], segments: &[u32]) -> bool
-    requires { ⌜ repeatedCorner (topology (mesh [] (now hexes) (now quads) (now segments) [])) ≡ false ⌝ }
-    ensures { λ r. ⌜ r ≡ mismatchedFace (topology (mesh [] (now (hexes .entry)) (now (quads .entry)) (now (segments .entry)) [])) ⌝ }
-{
-    let found = hashed::mismatched_face(words, hexes, quads, segments);
-    match found {
-        hashed::Verdict::Fails => true,
-        hashed::Verdict::Passes => false,
-        hashed::Verdict::Unknown => pairwise::has_mismatched_face(hexes, quads, segments),
-    }
 }
 
 // 8, document 01: loose vertex.
@@ -127,7 +118,8 @@ fn cell_refusal(
     if has_duplicate_cell(words, xs, hexes, quads, segments, points) {
         return 6;
     }
-    if has_mismatched_face(words, hexes, quads, segments) {
+    // 7, document 01: twisted face.
+    if by_classes::has_mismatched_face(words, hexes, quads, segments) {
         return 7;
     }
     if has_isolated_vertex(words, xs, hexes, quads, segments, points) {
@@ -163,7 +155,7 @@ fn edge_count(words: &mut [u32], hexes: &[u32], quads: &[u32], segments: &[u32])
     let tally = count::count_edges(words, hexes, quads, segments);
     match tally {
         Tally::Keys(n) => n,
-        Tally::Full => pairwise::count_distinct(1, hexes, quads, segments),
+        Tally::Full => by_classes::edge_count(words, hexes, quads, segments),
     }
 }
 
@@ -175,7 +167,7 @@ fn face_count(words: &mut [u32], hexes: &[u32], quads: &[u32], segments: &[u32])
     let tally = count::count_faces(words, hexes, quads);
     match tally {
         Tally::Keys(n) => n,
-        Tally::Full => pairwise::count_distinct(2, hexes, quads, segments),
+        Tally::Full => by_classes::face_count(words, hexes, quads, segments),
     }
 }
 

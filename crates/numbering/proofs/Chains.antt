@@ -7,7 +7,6 @@ use Prim.Native.Nat.{ℕ, suc, _+_, _≤_, _<_, suc-le-suc}
 use native.Mathlib.Nat.{not-suc-le-zero, le-of-suc-le-suc, eq-or-lt-of-le}
 use native.Mathlib.Omega.{arith}
 use lib.Dec.{leb, eqb}
-use lib.ListN.{length, getD}
 use borrow.Author.Tests.{eqb-true, eqb-false, leb-true, leb-false}
 use Rattle.rules.specs.Lists.{Key, indexOf}
 use Rattle.lists.specs.Membership.{In}

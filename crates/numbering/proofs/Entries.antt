@@ -1,36 +1,29 @@
 -- The table in a list of numbers: what the code's reads and stores have to show, at any count c of numbers in a key. Assumes nothing.
-use mathlib.Core.Path.{_≡_, refl, sym, ap, _∙_, subst}
+use mathlib.Core.Path.{_≡_, sym, ap, _∙_, subst}
 use mathlib.Core.Bool.{true, false}
-use mathlib.Core.Logic.{_⊎_, inl, inr, ⊎-elim}
+use mathlib.Core.Logic.{inl}
 use mathlib.Core.List.{List, [], _∷_, _++_}
-use Prim.Native.Nat.{ℕ, suc, _+_, _*_, _/_, _%_, _^_, _-_, _≤_, _<_}
-use native.Mathlib.Nat.{mul-comm, mul-le-mul-left, mul-lt-mul-of-pos-right, mod-lt, div-lt-iff-lt-mul}
+use Prim.Native.Nat.{ℕ, suc, _+_, _*_, _^_, _-_, _≤_, _<_}
+use native.Mathlib.Nat.{mul-le-mul-left, mod-lt}
 use native.Mathlib.Numerals.{add-one}
 use native.Mathlib.Omega.{arith}
 use lib.ListN.{length, getD, set, drop, replicate, length-set, length-append, length-drop, length-replicate, getD-replicate, List·getD-append}
 use lib.Seq.{ext-getD, sets, length-sets, getD-set-same, getD-set-other}
-use Rattle.rules.specs.Lists.{overwritten, Key, same, indexOf, meet, meetAll}
+use Rattle.rules.specs.Lists.{overwritten, Key, same, indexOf, meet}
 use Rattle.lists.specs.Membership.{In}
 use Rattle.lists.proofs.Tests.{false≢true}
 use Rattle.lists.proofs.Keys.{same-refl, same-eq, ne-same}
-use Rattle.lists.proofs.Distinct.{index-in, index-below, index-absent, index-right, meet-known, meet-absent, meetAll-append, meetAll-more}
+use Rattle.lists.proofs.Distinct.{index-in, index-below, index-right, meet-known, meet-absent}
 use Rattle.memory.proofs.Stores.{sets-other}
-use Rattle.numbering.specs.Table.{firsts, run, mix, slotOf, place, wordsFor, headAt, nextAt, entryKey, keys, Table, Met, MetAll}
+use Rattle.numbering.specs.Table.{firsts, run, slotOf, place, wordsFor, headAt, nextAt, entryKey, keys, Table, Met}
 use Rattle.numbering.proofs.Firsts.{length-firsts, length-run, getD-of-run, run-kept, run-sets}
 use Rattle.numbering.proofs.Chains.{none-yet, Cursor, start, step, step-less, found, missing, fresh, Added, added, added-keys}
 
 -- ---- the slot
 
-mix-below : (h : ℕ) (k : Key) → h < 2 ^ 32 → mix h k < 2 ^ 32
-unfolding mix
-mix-below h [] l = l
-mix-below h (x ∷ xs) l = mix-below ((h + x) * 1640531527 % 2 ^ 32) xs (mod-lt ((h + x) * 1640531527) (omega arith))
-
 pub slot-below : (room : ℕ) (k : Key) → slotOf room k < room + 1
 unfolding slotOf
-slot-below room k =
-    let h = mix-below 0 k (omega arith) in
-    div-lt-iff-lt-mul {k = 2 ^ 32} (omega arith) .1 (rw (mul-comm (room + 1) (2 ^ 32)) (mul-lt-mul-of-pos-right h (omega arith)))
+slot-below room k = mod-lt _ (omega arith)
 
 -- ---- a key that is compared number by number
 

@@ -6,6 +6,8 @@ pub mod Chains
 pub mod Entries
 -- Sort: an insertion sort in place makes the key.
 pub mod Sort
+-- Rows: rows listed one behind the other.
+pub mod Rows
 -- Places: the places of the parts' corners.
 pub mod Places
 -- Passes: keys met one after the other.

@@ -6,12 +6,11 @@ use lib.ListN.{length, getD}
 use Rattle.rules.specs.Lists.{concatMap, upFrom, cut, Key, keyOf, distinct}
 use Rattle.rules.specs.Mesh.{Kind, hex, quad, segment, point, corners, Mesh, Topology, topology, cellsOf, singles, whole, byDimension, places}
 use Rattle.rules.specs.Split.{cornersAt, keyAt, met, distinctParts, edges, faces}
-use Rattle.lists.specs.Membership.{In}
 use Rattle.lists.proofs.Membership.{map-same}
 use Rattle.lists.proofs.Tables.{length-entry}
 use Rattle.numbering.specs.declared.parts.Parts.{Parts}
-use Rattle.numbering.specs.declared.parts.Parts.the-variants.{HexEdges, HexFaces, Hexes, QuadEdges, Quads, Segments, Points}
-use Rattle.numbering.specs.Parts.{kindOf, dimensionOf, cellCorners, placesOf, partKeys, tableKeys}
+use Rattle.numbering.specs.declared.parts.Parts.the-variants.{Hexes, Quads, Segments, Points}
+use Rattle.numbering.specs.Parts.{kindOf, cellCorners, placesOf, partKeys, tableKeys}
 use Rattle.numbering.specs.Count.{edgeKeys, faceKeys}
 use Rattle.numbering.proofs.Firsts.{firsts-getD}
 

@@ -1,10 +1,10 @@
 -- The parts of cells that are numbered, and what numbering them answers.
 use mathlib.Core.Path.{_≡_}
-use mathlib.Core.List.{List, [], _∷_, _++_, map}
+use mathlib.Core.List.{List, _++_, map}
 use Prim.Native.Nat.{ℕ, _+_, _^_, _<_}
-use lib.ListN.{length}
+use lib.ListN.{length, getD}
 use lib.Seq.{sets}
-use Rattle.rules.specs.Lists.{concatMap, cut, Key, indexOf, meetAll}
+use Rattle.rules.specs.Lists.{concat, concatMap, cut, Key, indexOf, meetAll}
 use Rattle.rules.specs.Mesh.{Kind, hex, quad, segment, point, corners, places}
 use Rattle.rules.specs.Split.{keyAt}
 use Rattle.numbering.specs.declared.parts.Parts.{Parts}
@@ -51,6 +51,19 @@ partKeys parts cell = map (keyAt cell) (placesOf parts)
 
 unfoldable pub tableKeys : Parts → List ℕ → List Key
 tableKeys parts cells = concatMap (partKeys parts) (cut (cellCorners parts) cells)
+
+-- ---- the same from a list of places: those of the parts' corners, one part behind the other
+
+unfoldable pub placesListed : Parts → List ℕ
+placesListed parts = concat (placesOf parts)
+
+-- they are places in a cell of so many corners
+abbrev pub Within : ℕ → List ℕ → Type 0
+Within size listed = (i : ℕ) → i < length listed → getD listed i 0 < size
+
+-- the keys of a cell's parts, c corners each
+unfoldable pub listedKeys : ℕ → List ℕ → List ℕ → List Key
+listedKeys c listed cell = map (keyAt cell) (cut c listed)
 
 -- ---- answers
 

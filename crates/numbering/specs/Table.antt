@@ -22,9 +22,15 @@ unfoldable pub mix : ℕ → Key → ℕ
 mix h [] = h
 mix h (x ∷ xs) = mix ((h + x) * 1640531527 % 2 ^ 32) xs
 
--- the slot of a key among room + 1
+-- the numbers of a key, added to s
+unfoldable pub add : ℕ → Key → ℕ
+add s [] = s
+add s (x ∷ xs) = add ((s + x) % 2 ^ 32) xs
+
+-- The slot of a key among room + 1: somewhere in a window of 2 ^ 16 slots that moves with the sum of its numbers. Cells that follow one another
+-- name vertices close by, so their keys' slots lie close together and stay in the cache; keys with one sum still have a whole window.
 unfoldable pub slotOf : ℕ → Key → ℕ
-slotOf room k = mix 0 k * (room + 1) / 2 ^ 32
+slotOf room k = (4 * add 0 k + mix 0 k / 2 ^ 16) % (room + 1)
 
 -- ---- the layout
 

@@ -8,24 +8,39 @@ ghost use Rattle.numbering.specs.Table.{wordsFor, Table};
 ghost use Rattle.numbering.specs.Parts.{partCorners, tableKeys};
 ghost use Rattle.numbering.specs.Count.{CountOf, edgeKeys, faceKeys};
 
-// For how many keys of c numbers so many words have room, of which there is at least one.
-fn room_in(words: usize, c: usize) -> usize
+// The lesser of two numbers.
+fn least(x: usize, y: usize) -> usize
+    ensures { λ r. ⌜ (r ≤ x) × (r ≤ y) ⌝ }
+{
+    if x < y {
+        return x;
+    }
+    y
+}
+
+// For how many keys of c numbers so many words have room, of which there is at least one; at most `most`, and at most what a table holds.
+fn room_in(words: usize, c: usize, most: usize) -> usize
     requires { ⌜ (0 < words) × (c ≤ 8) ⌝ }
     ensures { λ r. ⌜ (wordsFor c r ≤ words) × (r + 1 < 2 ^ 32) ⌝ }
 {
-    let room = (words - 1) / (c + 2);
-    if room < 4294967294 {
-        return room;
-    }
-    4294967294
+    let bound = least(most, 4294967294);
+    least((words - 1) / (c + 2), bound)
 }
 
-// Makes an empty table of keys of c numbers in all of the memory; the answer is its room.
-fn prepare_all(w: &mut [u32], c: usize) -> usize
+// How many parts the cells of a flat table have, each counted as often as it is met.
+fn parts_in(of: parts::Parts, cells: &[u32]) -> usize
+    ensures { λ r. ⌜ r ≡ length (tableKeys of (now (cells .entry))) ⌝ }
+{
+    parts::count_of(of) * (cells.len() / parts::corners_of(of))
+}
+
+// Makes an empty table of keys of c numbers with room for `most`, or for as many as the memory holds; the answer is its room. Room that
+// is never used would cost: a table with fewer slots is cleared sooner, and more of it stays in the processor's cache.
+fn prepare_for(w: &mut [u32], c: usize, most: usize) -> usize
     requires { ⌜ (0 < length (now w)) × (c ≤ 8) ⌝ }
     ensures { λ r. ⌜ Table c (now (w .exit)) r 0 ⌝ }
 {
-    let room = room_in(w.len(), c);
+    let room = room_in(w.len(), c, most);
     table::prepare(w, room);
     room
 }
@@ -37,7 +52,10 @@ pub fn count_edges(w: &mut [u32], hexes: &[u32], quads: &[u32], segments: &[u32]
     if w.len() == 0 {
         return parts::Tally::Full;
     }
-    let room = prepare_all(w, 2);
+    let most = parts_in(parts::Parts::HexEdges, hexes)
+        + parts_in(parts::Parts::QuadEdges, quads)
+        + parts_in(parts::Parts::Segments, segments);
+    let room = prepare_for(w, 2, most);
     let mut key = [0u32; 2];
     let by_hexes = parts::meet_table(w, room, 0, parts::Parts::HexEdges, hexes, &mut key);
     let parts::Tally::Keys(n) = by_hexes else {
@@ -57,7 +75,8 @@ pub fn count_faces(w: &mut [u32], hexes: &[u32], quads: &[u32]) -> parts::Tally
     if w.len() == 0 {
         return parts::Tally::Full;
     }
-    let room = prepare_all(w, 4);
+    let most = parts_in(parts::Parts::HexFaces, hexes) + parts_in(parts::Parts::Quads, quads);
+    let room = prepare_for(w, 4, most);
     let mut key = [0u32; 4];
     let by_hexes = parts::meet_table(w, room, 0, parts::Parts::HexFaces, hexes, &mut key);
     let parts::Tally::Keys(n) = by_hexes else {
@@ -74,6 +93,6 @@ pub fn count_table(w: &mut [u32], of: parts::Parts, cells: &[u32], key: &mut [u3
     if w.len() == 0 {
         return parts::Tally::Full;
     }
-    let room = prepare_all(w, key.len());
+    let room = prepare_for(w, key.len(), parts_in(of, cells));
     parts::meet_table(w, room, 0, of, cells, key)
 }

@@ -4,7 +4,7 @@ ghost use Prim.Native.Nat.{_+_, _^_, _≤_, _<_};
 ghost use lib.ListN.{length, replicate};
 ghost use lib.Seq.{sets};
 ghost use Rattle.rules.specs.Lists.{same, indexOf, overwritten};
-ghost use Rattle.numbering.specs.Table.{run, slotOf, wordsFor, keys, Table, Met};
+ghost use Rattle.numbering.specs.Table.{run, slotOf, keys, Table, Met};
 ghost use Rattle.numbering.specs.Meeting.{Answered};
 
 // What meeting a key answers: the key's number and the count of keys; or that it is new and there is no room for it.
@@ -34,13 +34,15 @@ fn slot(room: usize, key: &[u32]) -> usize
     ensures { λ r. ⌜ r ≡ slotOf room (now (key .entry)) ⌝ }
 {
     let mut h = 0;
+    let mut s = 0;
     let mut i = 0;
     while i < key.len() {
-        let x = key[i];
-        h = (h + wide(x)) * 1640531527 % 4294967296;
+        let x = wide(key[i]);
+        h = (h + x) * 1640531527 % 4294967296;
+        s = (s + x) % 4294967296;
         i += 1;
     }
-    h * (room + 1) / 4294967296
+    (4 * s + h / 65536) % (room + 1)
 }
 
 // Whether the key stands in the list from `at` on.

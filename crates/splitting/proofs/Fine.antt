@@ -1,5 +1,5 @@
 -- The numbers that are stored are those of the rules: the children of all cells of a sound topology. Assumes nothing.
-use mathlib.Core.Path.{_≡_, refl, sym, ap, _∙_, subst}
+use mathlib.Core.Path.{_≡_, refl, sym, ap, _∙_}
 use mathlib.Core.Logic.{inl, inr}
 use mathlib.Core.List.{List, [], _∷_, _++_, map, map-id, map-map, append-assoc, append-nil}
 use Prim.Native.Nat.{ℕ, _+_, _/_, _<_}
@@ -7,8 +7,8 @@ use native.Mathlib.Nat.{mod-one}
 use native.Mathlib.Omega.{arith}
 use lib.ListN.{length, getD, length-map, List·getD-append}
 use Rattle.rules.specs.Lists.{concat, concatMap, upFrom, Key, indexOf}
-use Rattle.rules.specs.Mesh.{Kind, hex, quad, segment, point, whole, singles, byDimension, places, cellParts, firstHolding, smallest, smallestTable, Mesh, Topology, topology, cellsOf}
-use Rattle.rules.specs.Split.{keyAt, distinctParts, edges, faces, parts, fineVertex, child, children, splitBy, split}
+use Rattle.rules.specs.Mesh.{Kind, hex, point, whole, byDimension, places, cellParts, firstHolding, smallest, smallestTable, Mesh, Topology, topology, cellsOf}
+use Rattle.rules.specs.Split.{keyAt, edges, faces, parts, fineVertex, child, children, splitBy, split}
 use Rattle.lists.specs.Membership.{In}
 use Rattle.lists.proofs.Membership.{map-same, concatMap-same, concatMap-is, getD-map, getD-in, in-upFrom}
 use Rattle.lists.proofs.Tables.{length-cut, concat-cut}
@@ -17,7 +17,7 @@ use Rattle.soundness.specs.Numbers.{start, numberOf}
 use Rattle.soundness.proofs.CellParts.{smallest-below}
 use Rattle.soundness.proofs.Cells.{CellOf, fine}
 use Rattle.soundness.proofs.Numbers.{is-hex, fine-upper, fine-hex, cell-vertices, point-child}
-use Rattle.numbering.specs.Parts.{partKeys, placesOf}
+use Rattle.numbering.specs.Parts.{partKeys}
 use Rattle.numbering.proofs.Firsts.{firsts-getD}
 use Rattle.splitting.specs.declared.kinds.CellKind.{CellKind}
 use Rattle.splitting.specs.declared.kinds.CellKind.the-variants.{Hex, Quad, Segment}

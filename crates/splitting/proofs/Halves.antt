@@ -1,10 +1,10 @@
--- A list lent in two parts: what came back is the other part untouched. Assumes nothing.
-use mathlib.Core.Path.{_≡_, ap, _∙_}
-use mathlib.Core.List.{List, _++_, append-nil}
-use Prim.Native.Nat.{ℕ, _-_, _≤_}
+-- A list of which a part was lent: what came back, and the rest untouched. Assumes nothing.
+use mathlib.Core.Path.{_≡_, sym, ap, _∙_}
+use mathlib.Core.List.{List, _++_, append-assoc, append-nil}
+use Prim.Native.Nat.{ℕ, _+_, _-_, _≤_}
 use native.Mathlib.Omega.{arith}
 use lib.ListN.{length, take, drop, length-append, length-drop, take-append-drop, drop-of-length-le}
-use lib.Seq.{length-take-le, take-all, take-at, drop-at}
+use lib.Seq.{length-take-le, take-all, take-at, drop-at, drop-drop, sets, sets-eq}
 
 module _ {A : Type 0} (n : ℕ) (w : List A) where
   -- a first part of full length
@@ -37,3 +37,9 @@ module _ {A : Type 0} (n : ℕ) (w : List A) where
         drop-at (take n w) (r ++ drop (length w - n) (drop n w)) n (length-take-le n w l)
         ∙ ap (λ (s : List A). r ++ s) (drop-of-length-le (drop n w) u)
         ∙ append-nil r
+
+-- n elements from a on were lent, and came back as vs
+pub part-back : {A : Type 0} (a n : ℕ) (l vs : List A) → length vs ≡ n → a + n ≤ length l → take a l ++ (vs ++ drop n (drop a l)) ≡ sets l a vs
+part-back a n l vs e h =
+    rw (← e, drop-drop (length vs) a l)
+    (sym (append-assoc (take a l) vs (drop (a + length vs) l)) ∙ sym (sets-eq vs l a (omega arith)))

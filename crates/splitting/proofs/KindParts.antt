@@ -1,13 +1,13 @@
 -- The parts of each kind of cells, as the numbering has them. Assumes nothing.
-use mathlib.Core.Path.{_≡_, refl}
+use mathlib.Core.Path.{_≡_, refl, sym}
 use mathlib.Core.List.{List}
-use Prim.Native.Nat.{ℕ, _+_, _≤_, _<_}
+use Prim.Native.Nat.{ℕ, _+_, _*_, _/_, _≤_, _<_}
 use native.Mathlib.Omega.{arith}
 use lib.ListN.{length, length-append, length-map}
 use Rattle.rules.specs.Lists.{concat, upFrom, Key, indexOf}
 use Rattle.rules.specs.Mesh.{singles, byDimension, places, cellParts}
-use Rattle.numbering.specs.Parts.{placesOf, partCorners, cellCorners, partKeys}
-use Rattle.numbering.proofs.Places.{length-partKeys}
+use Rattle.numbering.specs.Parts.{placesOf, partCorners, cellCorners, partKeys, placesListed, Within, listedKeys}
+use Rattle.numbering.proofs.Places.{length-partKeys, length-listed, count-listed, listed-within, cell-listed}
 use Rattle.splitting.specs.declared.kinds.CellKind.{CellKind}
 use Rattle.splitting.specs.declared.kinds.CellKind.the-variants.{Hex, Quad, Segment}
 use Rattle.splitting.specs.Kinds.{kindOf, cornerCount, edgesOf, facesOf}
@@ -23,12 +23,12 @@ face-corners Hex = refl
 face-corners Quad = refl
 face-corners Segment = refl
 
-pub edge-cell : (kind : CellKind) → cellCorners (edgesOf kind) ≡ cornerCount kind
+edge-cell : (kind : CellKind) → cellCorners (edgesOf kind) ≡ cornerCount kind
 edge-cell Hex = refl
 edge-cell Quad = refl
 edge-cell Segment = refl
 
-pub face-cell : (kind : CellKind) → cellCorners (facesOf kind) ≡ cornerCount kind
+face-cell : (kind : CellKind) → cellCorners (facesOf kind) ≡ cornerCount kind
 face-cell Hex = refl
 face-cell Quad = refl
 face-cell Segment = refl
@@ -73,3 +73,30 @@ pub some-corners : (kind : CellKind) → 0 < cornerCount kind
 some-corners Hex = omega arith
 some-corners Quad = omega arith
 some-corners Segment = omega arith
+
+-- ---- the places of their corners, as they are listed
+
+module _ (kind : CellKind) where
+  pub edge-length : length (placesListed (edgesOf kind)) ≡ 2 * length (placesOf (edgesOf kind))
+  edge-length = rw (edge-corners kind) at (length-listed (edgesOf kind))
+
+  pub face-length : length (placesListed (facesOf kind)) ≡ 4 * length (placesOf (facesOf kind))
+  face-length = rw (face-corners kind) at (length-listed (facesOf kind))
+
+  pub edge-count : length (placesListed (edgesOf kind)) / 2 ≡ length (placesOf (edgesOf kind))
+  edge-count = sym (rw (edge-corners kind) at (count-listed (edgesOf kind)))
+
+  pub face-count : length (placesListed (facesOf kind)) / 4 ≡ length (placesOf (facesOf kind))
+  face-count = sym (rw (face-corners kind) at (count-listed (facesOf kind)))
+
+  pub edge-within : Within (cornerCount kind) (placesListed (edgesOf kind))
+  edge-within = rw (edge-cell kind) at (listed-within (edgesOf kind))
+
+  pub face-within : Within (cornerCount kind) (placesListed (facesOf kind))
+  face-within = rw (face-cell kind) at (listed-within (facesOf kind))
+
+  pub edge-keys : (cell : List ℕ) → listedKeys 2 (placesListed (edgesOf kind)) cell ≡ partKeys (edgesOf kind) cell
+  edge-keys cell = rw (edge-corners kind) at (cell-listed (edgesOf kind) cell)
+
+  pub face-keys : (cell : List ℕ) → listedKeys 4 (placesListed (facesOf kind)) cell ≡ partKeys (facesOf kind) cell
+  face-keys cell = rw (face-corners kind) at (cell-listed (facesOf kind) cell)

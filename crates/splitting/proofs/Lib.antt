@@ -2,7 +2,7 @@
 pub mod Tables
 -- KindParts: the parts of each kind of cells.
 pub mod KindParts
--- Halves: a list lent in two parts.
+-- Halves: a list of which a part was lent.
 pub mod Halves
 -- Walk: cells walked one after the other.
 pub mod Walk

@@ -1,10 +1,9 @@
 -- A round's split: what each call of the driver may ask and gets, with all edges and faces of a ready mesh. Assumes nothing.
 use mathlib.Core.Path.{_≡_, refl, sym, ap, _∙_}
-use mathlib.Core.List.{List, [], _∷_, _++_, map, append-assoc, append-nil}
+use mathlib.Core.List.{List, [], _∷_, _++_, append-assoc, append-nil}
 use Prim.Native.Nat.{ℕ, _+_, _*_, _/_, _≤_}
 use native.Mathlib.Omega.{arith}
 use lib.ListN.{length, getD}
-use lib.Seq.{sets}
 use Rattle.rules.specs.Lists.{concat, concatMap, overwritten, upFrom, Key, meetAll, distinct}
 use Rattle.rules.specs.Mesh.{Mesh, Topology, topology, byDimension, places}
 use Rattle.rules.specs.Split.{edges, faces, split}

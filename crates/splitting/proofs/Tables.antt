@@ -1,26 +1,30 @@
 -- The table of smallest parts: its rows and their entries. Assumes nothing.
-use mathlib.Core.Path.{_≡_, sym, ap, _∙_, subst}
-use mathlib.Core.List.{List, [], _++_}
-use Prim.Native.Nat.{ℕ, _+_, _*_, _≤_, _<_}
+use mathlib.Core.Path.{_≡_, refl, sym, ap, _∙_}
+use mathlib.Core.List.{List, [], _∷_, _++_, map, map-append}
+use Prim.Native.Nat.{ℕ, _*_, _/_, _%_, _≤_, _<_}
+use native.Mathlib.Nat.{mul-le-mul}
 use native.Mathlib.Omega.{arith}
-use lib.ListN.{length, getD, take, drop, length-map, take-append-drop, List·getD-append}
-use lib.Seq.{sets, length-take-le, take-all}
+use lib.ListN.{length, getD, drop, List·getD-append}
 use Rattle.rules.specs.Lists.{concat, concatMap, overwritten, upFrom, any, has}
-use Rattle.rules.specs.Mesh.{Kind, corners, singles, whole, byDimension, cellParts, firstHolding, smallestTable, placeOf}
+use Rattle.rules.specs.Mesh.{singles, whole, byDimension, cellParts, firstHolding, smallestTable, placeOf}
+use Rattle.rules.specs.Split.{cornersAt}
 use Rattle.lists.specs.Membership.{In}
-use Rattle.lists.proofs.Membership.{in-left, getD-in, map-same, concatMap-same}
-use Rattle.lists.proofs.Once.{length-concatMap}
+use Rattle.lists.proofs.Membership.{getD-in, in-concat, map-same, concatMap-same}
+use Rattle.lists.proofs.Tables.{length-concat}
 use Rattle.lists.proofs.Decide.{computed, decBoth, decEach, decNumber, decBelow}
-use Rattle.memory.proofs.Stores.{sets-append}
-use Rattle.numbering.proofs.Passes.{concatMap-turn}
+use Rattle.numbering.specs.Parts.{Within}
+use Rattle.numbering.proofs.Rows.{row-of, listed-at, length-read}
 use Rattle.splitting.specs.declared.kinds.CellKind.{CellKind}
 use Rattle.splitting.specs.declared.kinds.CellKind.the-variants.{Hex, Quad, Segment}
-use Rattle.splitting.specs.Kinds.{kindOf, cornerCount}
+use Rattle.splitting.specs.Kinds.{kindOf, cornerCount, smallestListed}
 use Rattle.splitting.specs.Cells.{picked, childCorners}
+use Rattle.splitting.proofs.KindParts.{few-corners, some-corners}
 
-module _ {A : Type 0} where
-  take-in : (xs : List A) (i : ℕ) (x : A) → In x (take i xs) → In x xs
-  take-in xs i x j = subst (λ (l : List A). In x l) (take-append-drop i xs) (in-left x (take i xs) (drop i xs) j)
+-- what is read of rows that are listed one behind the other
+map-rows : (f : ℕ → ℕ) (rows : List (List ℕ)) → map f (concat rows) ≡ concatMap (map f) rows
+unfolding concat concatMap
+map-rows f [] = refl
+map-rows f (row ∷ rows) = map-append f row (concat rows) ∙ ap (λ (r : List ℕ). map f row ++ r) (map-rows f rows)
 
 -- a row of n numbers, each of a part
 abbrev Row : ℕ → ℕ → List ℕ → Type 0
@@ -37,7 +41,7 @@ table Hex = computed (decTable 8 27 (smallestTable (kindOf Hex))) tt
 table Quad = computed (decTable 4 9 (smallestTable (kindOf Quad))) tt
 table Segment = computed (decTable 2 3 (smallestTable (kindOf Segment))) tt
 
-pub table-rows : (kind : CellKind) → length (smallestTable (kindOf kind)) ≡ cornerCount kind
+table-rows : (kind : CellKind) → length (smallestTable (kindOf kind)) ≡ cornerCount kind
 table-rows kind = table kind .0
 
 pub few-numbers : (kind : CellKind) → length (cellParts (kindOf kind)) ≤ 27
@@ -46,46 +50,46 @@ few-numbers Hex = omega arith
 few-numbers Quad = omega arith
 few-numbers Segment = omega arith
 
-pub row-below : (kind : CellKind) (row : List ℕ) → In row (smallestTable (kindOf kind)) → (q : ℕ) → In q row → q < length (cellParts (kindOf kind))
+row-below : (kind : CellKind) (row : List ℕ) → In row (smallestTable (kindOf kind)) → (q : ℕ) → In q row → q < length (cellParts (kindOf kind))
 row-below kind row i = table kind .1 row i .1
 
-module _ (kind : CellKind) (i : ℕ) (l : i < cornerCount kind) where
-  pub row-in : In (getD (smallestTable (kindOf kind)) i []) (smallestTable (kindOf kind))
-  row-in = getD-in (smallestTable (kindOf kind)) i [] (omega (arith, table-rows kind))
+-- ---- the table, as it is listed
 
-  pub row-length : length (getD (smallestTable (kindOf kind)) i []) ≡ cornerCount kind
-  row-length = table kind .1 (getD (smallestTable (kindOf kind)) i []) row-in .0
+row-length : (kind : CellKind) (row : List ℕ) → In row (smallestTable (kindOf kind)) → length row ≡ cornerCount kind
+row-length kind row i = table kind .1 row i .0
 
-  pub entry-below : (j : ℕ) → j < cornerCount kind → placeOf (smallestTable (kindOf kind)) i j < length (cellParts (kindOf kind))
-  entry-below j u =
-      let row = getD (smallestTable (kindOf kind)) i [] in
-      row-below kind row row-in (getD row j 0) (getD-in row j 0 (omega (arith, row-length)))
+pub length-smallest : (kind : CellKind) → length (smallestListed kind) ≡ cornerCount kind * cornerCount kind
+unfolding smallestListed
+length-smallest kind =
+    length-concat (cornerCount kind) (smallestTable (kindOf kind)) (row-length kind) ∙ ap (λ (n : ℕ). cornerCount kind * n) (table-rows kind)
 
--- ---- the corners of the first i children
+pub few-smallest : (kind : CellKind) → length (smallestListed kind) ≤ 64
+few-smallest kind = omega (arith, length-smallest kind, mul-le-mul (few-corners kind) (few-corners kind))
 
-module _ (kind : CellKind) (numbers : List ℕ) (i : ℕ) where
-  rows-length : i ≤ cornerCount kind → length (concatMap (picked numbers) (take i (smallestTable (kindOf kind)))) ≡ cornerCount kind * i
-  rows-length l =
-      let rows = smallestTable (kindOf kind) in
-      let n : length (take i rows) ≡ i = length-take-le i rows (omega (arith, table-rows kind)) in
-      length-concatMap (picked numbers) (cornerCount kind) (take i rows)
-      (λ row j. length-map row (λ (q : ℕ). getD numbers q 0) ∙ table kind .1 row (take-in rows i row j) .0)
-      ∙ ap (λ (k : ℕ). cornerCount kind * k) n
+-- place i of the list, by its row and column
+module _ (kind : CellKind) (i : ℕ) (l : i < length (smallestListed kind)) where
+  pub row-column : (i / cornerCount kind < cornerCount kind) × (i % cornerCount kind < cornerCount kind)
+  unfolding smallestListed
+  row-column = rw (table-rows kind) at (row-of (cornerCount kind) (smallestTable (kindOf kind)) (some-corners kind) (row-length kind) i l)
 
-  -- one child more is stored
-  pub child-turn : (out : List ℕ) (at : ℕ) → i < cornerCount kind → sets (sets out at (concatMap (picked numbers) (take i (smallestTable (kindOf kind))))) (at + cornerCount kind * i) (picked numbers (getD (smallestTable (kindOf kind)) i [])) ≡ sets out at (concatMap (picked numbers) (take (i + 1) (smallestTable (kindOf kind))))
-  child-turn out at l =
-      let rows = smallestTable (kindOf kind) in
-      let s = concatMap (picked numbers) (take i rows) in
-      let r = picked numbers (getD rows i []) in
-      ap (λ (k : ℕ). sets (sets out at s) (at + k) r) (sym (rows-length (omega arith)))
-      ∙ sym (sets-append out at s r)
-      ∙ ap (sets out at) (sym (concatMap-turn (picked numbers) rows i [] (omega (arith, table-rows kind))))
+  pub smallest-place : placeOf (smallestTable (kindOf kind)) (i / cornerCount kind) (i % cornerCount kind) ≡ getD (smallestListed kind) i 0
+  unfolding smallestListed
+  smallest-place = listed-at (cornerCount kind) (smallestTable (kindOf kind)) (some-corners kind) (row-length kind) i l
+
+pub smallest-within : (kind : CellKind) → Within (length (cellParts (kindOf kind))) (smallestListed kind)
+unfolding smallestListed
+smallest-within kind i l =
+    let q = getD (smallestListed kind) i 0 in
+    let r = in-concat (smallestTable (kindOf kind)) q (getD-in (smallestListed kind) i 0 l) in
+    row-below kind (r .0) (r .1) q (r .2)
+
+-- the corners of all children
+pub children-listed : (kind : CellKind) (numbers : List ℕ) → cornersAt numbers (smallestListed kind) ≡ childCorners (kindOf kind) numbers
+unfolding cornersAt smallestListed childCorners
+children-listed kind numbers = map-rows (λ (q : ℕ). getD numbers q 0) (smallestTable (kindOf kind))
 
 pub children-length : (kind : CellKind) (numbers : List ℕ) → length (childCorners (kindOf kind) numbers) ≡ cornerCount kind * cornerCount kind
-unfolding childCorners
-children-length kind numbers =
-    rw (take-all (cornerCount kind) (smallestTable (kindOf kind)) (omega (arith, table-rows kind))) at (rows-length kind numbers (cornerCount kind) (omega arith))
+children-length kind numbers = ap length (sym (children-listed kind numbers)) ∙ length-read numbers (smallestListed kind) ∙ length-smallest kind
 
 -- ---- what stands behind the numbers is not picked
 

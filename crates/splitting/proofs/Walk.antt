@@ -1,18 +1,18 @@
 -- Cells walked one after the other: their keys and their children's corners, after i of them. Assumes nothing.
-use mathlib.Core.Path.{_≡_, refl, sym, ap, _∙_}
+use mathlib.Core.Path.{_≡_, sym, ap, _∙_}
 use mathlib.Core.List.{List, [], _∷_, _++_, append-assoc, append-nil}
-use Prim.Native.Nat.{ℕ, suc, _+_, _*_, _/_, _≤_, _<_}
+use Prim.Native.Nat.{ℕ, suc, _+_, _*_, _≤_, _<_}
 use native.Mathlib.Nat.{zero-add}
 use native.Mathlib.Numerals.{add-one}
 use native.Mathlib.Omega.{arith}
 use lib.ListN.{length, getD, take, drop}
-use lib.Seq.{sets, take-all}
+use lib.Seq.{sets}
 use Rattle.rules.specs.Lists.{concatMap, upFrom, Key, meetAll}
 use Rattle.lists.proofs.Once.{concatMap-append, length-concatMap}
 use Rattle.lists.proofs.Membership.{length-upFrom}
 use Rattle.lists.proofs.Distinct.{meetAll-append}
 use Rattle.memory.proofs.Stores.{sets-append}
-use Rattle.numbering.specs.Table.{keys, Table, MetAll}
+use Rattle.numbering.specs.Table.{keys, MetAll}
 use Rattle.numbering.proofs.Firsts.{upFrom-snoc}
 use Rattle.numbering.proofs.Passes.{length-later, met-append, concatMap-at, concatMap-turn}
 

@@ -3,8 +3,9 @@ use numbering::parts;
 use rules::tables;
 ghost use mathlib.Core.Path.{_≡_};
 ghost use Prim.Native.Nat.{_<_};
+ghost use lib.ListN.{length, take};
 ghost use Rattle.rules.specs.Mesh.{smallestTable, placeOf};
-ghost use Rattle.splitting.specs.Kinds.{kindOf, cornerCount, edgesOf, facesOf};
+ghost use Rattle.splitting.specs.Kinds.{kindOf, cornerCount, edgesOf, facesOf, smallestListed};
 
 pub enum CellKind {
     Hex,
@@ -43,7 +44,7 @@ pub fn faces_of(kind: CellKind) -> parts::Parts
 }
 
 // The number of the smallest part that holds corners i and j, among the cell's parts.
-pub fn smallest(kind: CellKind, i: usize, j: usize) -> usize
+fn smallest(kind: CellKind, i: usize, j: usize) -> usize
     requires { ⌜ i < cornerCount kind ⌝ }
     requires { ⌜ j < cornerCount kind ⌝ }
     ensures { λ r. ⌜ r ≡ placeOf (smallestTable (kindOf kind)) i j ⌝ }
@@ -53,4 +54,21 @@ pub fn smallest(kind: CellKind, i: usize, j: usize) -> usize
         CellKind::Quad => tables::quad_smallest(i, j),
         CellKind::Segment => tables::segment_smallest(i, j),
     }
+}
+
+// The table of the smallest parts, row after row; zeros behind it. It is listed once for a whole table of cells.
+pub fn listed(kind: CellKind) -> [u8; 64]
+    ensures { λ r. ⌜ take (length (smallestListed kind)) r ≡ smallestListed kind ⌝ }
+{
+    let mut rows = [0u8; 64];
+    let corners = corner_count(kind);
+    let count = corners * corners;
+    let mut i = 0;
+    while i < count {
+        let row = i / corners;
+        let column = i % corners;
+        rows[i] = smallest(kind, row, column) as u8;
+        i += 1;
+    }
+    rows
 }

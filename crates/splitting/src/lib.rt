@@ -11,7 +11,7 @@ ghost use Rattle.rules.specs.Lists.{concat, overwritten};
 ghost use Rattle.rules.specs.Mesh.{mesh, topology};
 ghost use Rattle.rules.specs.Split.{split};
 ghost use Rattle.numbering.specs.Table.{Table};
-ghost use Rattle.splitting.specs.Words.{facesAt, edgeWords, faceWords};
+ghost use Rattle.splitting.specs.Words.{edgeWords, faceWords};
 ghost use Rattle.splitting.specs.Ready.{tableWords, Ready, Places};
 
 // The kinds of cells that are split.

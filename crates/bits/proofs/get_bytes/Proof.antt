@@ -28,8 +28,8 @@ append-requires c κs =
     let a = at-loop .before .before .args in
     let i = at-loop .loop .i in
     let bytes = c .shared-slice-known2 .given in
-    let four : number (take i (drop (a .from) (a .s .now))) < 2 ^ 32 = window-lt (a .s .now) (a .from) i 4 (λ j. bytes j .fits) (omega arith) in
-    (omega arith, omega (arith, at-loop .loop .inv .1, four), bytes (a .from + i) .fits)
+    let seven : number (take i (drop (a .from) (a .s .now))) < 2 ^ 56 = window-lt (a .s .now) (a .from) i 7 (λ j. bytes j .fits) (omega arith) in
+    (omega arith, omega (arith, at-loop .loop .inv .1, seven), bytes (a .from + i) .fits)
 
 loop-again : tie.Need-loop-again Inv-loop μ-loop
 loop-again c =

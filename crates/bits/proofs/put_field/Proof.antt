@@ -1,102 +1,26 @@
--- `bits::put_field` meets its contract: the bits before the field, the field and zero bits make the bytes that hold it (`put-bytes`).
+-- `bits::put_field` meets its contract: what is put behind the pending bits is put behind the first `at` bits.
 use borrow.Author.Needs.{needs}
-use Prim.Native.Nat.{ℕ, _+_, _-_, _*_, _/_, _%_, _^_, _≤_, _<_}
-use mathlib.Core.Path.{_≡_, refl, sym, ap, _∙_, subst}
-use mathlib.Core.List.{List}
-use native.Mathlib.Nat.{lt-of-lt-of-le, mod-eq-of-lt, add-zero}
+use Prim.Native.Nat.{ℕ}
+use mathlib.Core.Path.{ap, _∙_}
 use native.Mathlib.Omega.{arith}
-use lib.ListN.{getD}
-use lib.Arith.{digits-lt}
-use lib.Pow.{pow-pos, pow-add, pow-mono, shl-lt}
-use Rattle.rules.specs.Bits.{bytesOf}
-use Rattle.bits.proofs.Windows.{put-bytes, high-lt}
-use lib.Seq.{sets}
+use Rattle.bits.specs.Writing.{putAt, settled}
 use Rattle.bits.proofs.put_field.Statement.{statement}
 use Rattle.bits.proofs.put_field.Tie as tie
 
-cast-cut : tie.Need-cast-cut
-cast-cut c = omega (arith, c .slice-known2 .given (c .before .before .args .at / 8))
-
--- the bits before the field: the high bits of a byte
-head : (c : tie.After-cut)
-    → let a = c .before .before .before .args in
-    (c .cut .result ≡ getD (a .d .now) (a .at / 8) 0 / 2 ^ (8 - a .at % 8)) × (c .cut .result < 2 ^ (a .at % 8))
-head c =
-    let a = c .before .before .before .args in
-    let b : ℕ = getD (a .d .now) (a .at / 8) 0 in
-    let l : b / 2 ^ (8 - a .at % 8) < 2 ^ (a .at % 8) = high-lt b (a .at % 8) (c .before .slice-known2 .given (a .at / 8) .fits) (omega arith) in
-    let e : c .cut .result ≡ b / 2 ^ (8 - a .at % 8) = c .cut .ensures ∙ mod-eq-of-lt l in
-    (e, subst (λ (n : ℕ). n < 2 ^ (a .at % 8)) (sym e) l)
-
-append-requires : tie.Need-append-requires
-append-requires c κs =
-    let start = c .before .before .before in
-    let k = start .args .k in
-    let u : ℕ = start .args .at % 8 in
-    let room : u + k ≤ 64 = omega arith in
-    (omega arith, lt-of-lt-of-le (shl-lt u k (head c .1)) (pow-mono room), start .pre .2)
-
--- with the field behind them
-headed : (c : tie.After-append)
-    → let a = c .before .before .before .before .args in
-    c .append .result < 2 ^ (a .at % 8 + a .k)
-headed c =
-    let start = c .before .before .before .before in
-    let k = start .args .k in
-    let u : ℕ = start .args .at % 8 in
-    subst (λ (n : ℕ). n < 2 ^ (u + k)) (sym (c .append .ensures))
-    (subst (λ (n : ℕ). c .before .cut .result * 2 ^ k + start .args .v < n) (sym (pow-add 2 u k)) (digits-lt (head (c .before) .1) (start .pre .2)))
-
-append-requires-2 : tie.Need-append-requires-2
-append-requires-2 c κs =
-    let a = c .before .before .before .before .args in
-    let from : ℕ = a .at / 8 in
-    let f : ℕ = 8 * (from + ((a .at + a .k + 7) / 8 - from)) - (a .at + a .k) in
-    let room : a .at % 8 + a .k + f ≤ 64 = omega arith in
-    (omega arith, lt-of-lt-of-le (shl-lt (a .at % 8 + a .k) f (headed c)) (pow-mono room), pow-pos f)
-
 returns : tie.Need-returns
 returns c =
-    let at-put = c .before .before in
-    let at-whole = at-put .before .before in
-    let at-append = at-whole .before in
-    let at-head = at-append .before in
-    let at-known = at-head .before .before in
-    let start = at-known .before in
-    let a = start .args in
-    let d : List ℕ = a .d .now in
-    let k = a .k in
-    let from : ℕ = a .at / 8 in
-    let n : ℕ = (a .at + k + 7) / 8 - from in
-    let f : ℕ = 8 * (from + n) - (a .at + k) in
-    let whole : at-whole .append2 .result ≡ (getD d from 0 / 2 ^ (8 - a .at % 8) * 2 ^ k + a .v) * 2 ^ f =
-    at-whole .append2 .ensures
-    ∙ add-zero (at-append .append .result * 2 ^ f)
-    ∙ ap (λ (x : ℕ). x * 2 ^ f) (at-append .append .ensures ∙ ap (λ (x : ℕ). x * 2 ^ k + a .v) (head at-head .0)) in (
-      refl,
-      at-put .put-bytes .ensures
-          ∙ ap (λ (x : ℕ). sets d from (bytesOf n x)) whole
-          ∙ put-bytes d (a .at) k (a .v) (λ j. at-known .slice-known .given j .fits) (start .pre .0) (start .pre .2) (start .pre .3),
+    let at-settle = c .before .before in
+    let at-next = at-settle .before .before .before .before in
+    let at-pend = at-next .before .before in
+    let a = at-pend .before .before .before .args in (
+      omega (arith, at-settle .settle .ensures .0, at-next .put-next .ensures .1, at-pend .pend .ensures .1),
+      at-settle .settle .ensures .1
+          ∙ at-next .put-next .ensures .2
+          ∙ ap (λ (e : ℕ). putAt (settled (a .d .now) (at-pend .pend .result)) e (a .k) (a .v)) (at-pend .pend .ensures .1)
+          ∙ at-pend .pend .ensures .2 (a .k) (a .v),
     )
 
 pub put-field-spec : {M : Type 1} → statement M
 put-field-spec =
     tie.close
-    (tie.spec
-    (λ c. search needs)
-    (λ c. search needs)
-    (λ c. search needs)
-    (λ c. search needs)
-    (λ c. search needs)
-    (λ c. search needs)
-    (λ c. search needs)
-    (λ c. search needs)
-    (λ c. search needs)
-    cast-cut
-    (λ c. search needs)
-    (λ c κs. search needs)
-    append-requires
-    append-requires-2
-    (λ c κs. search needs)
-    (λ c. search needs)
-    returns)
+    (tie.spec (λ c κs. search needs) (λ c κs. search needs) (λ c κs. search needs) (λ c. search needs) returns)

@@ -1,66 +1,75 @@
--- `bits::put_table` meets its contract. The loop's invariant: d is what putting the first i entries leaves.
+-- `bits::put_table` meets its contract. The loop's invariant: the first i entries are in the buffer or wait (`Putting`).
 use borrow.Author.Needs.{needs}
-use Prim.Native.Nat.{ℕ, _+_, _-_, _*_, _^_, _≤_}
-use mathlib.Core.Path.{_≡_, refl, ap, ap₂, _∙_}
-use mathlib.Core.List.{List}
+use Prim.Native.Nat.{ℕ, _-_, _*_, _≤_}
+use mathlib.Core.Path.{refl, _∙_}
 use native.Mathlib.Nat.{mul-zero}
 use native.Mathlib.Omega.{arith}
-use lib.ListN.{length, take, getD}
-use lib.Seq.{take-length}
-use Rattle.rules.specs.StoredForm.{tableFields}
-use Rattle.bits.specs.Writing.{putAt, putAll}
-use Rattle.bits.proofs.Writing.{put-step, put-none}
+use lib.ListN.{length}
+use Rattle.bits.proofs.Writing.{put-empty}
+use Rattle.bits.proofs.Waiting.{Putting, put-start, put-turn, put-end}
 use Rattle.bits.proofs.Tables.{next-room}
 use Rattle.bits.proofs.put_table.Statement.{statement}
 use Rattle.bits.proofs.put_table.Tie as tie
 
 abbrev Inv-loop : tie.InvT-loop
-Inv-loop d₀ at w t p₀ i₀ d p i = (i ≤ length t) × (p ≡ at + w * i) × (d ≡ putAll d₀ at (tableFields w (take i t))) × (length d ≡ length d₀)
+Inv-loop d₀ at w t p₀ i₀ d p i = (i ≤ length t) × Putting d₀ at w t d p i
 
 abbrev μ-loop : tie.MeasureT-loop
 μ-loop d₀ at w t p₀ i₀ d p i = length t - i
 
+returns : tie.Need-returns Inv-loop μ-loop
+returns c =
+    let a = c .before .before .before .args in
+    put-empty (a .d .now) (a .t .now) (a .at) (a .w) (omega arith)
+
+pend-requires : tie.Need-pend-requires Inv-loop μ-loop
+pend-requires c κs =
+    let a = c .before .before .before .before .args in
+    omega (arith, mul-zero (a .w), next-room (a .at) (a .w) 0 (length (a .t .now)) (8 * length (a .d .now)) (omega arith) (omega arith))
+
 loop-holds : tie.Need-loop-holds Inv-loop μ-loop
 loop-holds c =
-    let a = c .before .before .args in
-    (omega arith, omega (arith, mul-zero (a .w)), put-none (a .d .now) (a .t .now) (a .at) (a .w), refl)
+    let a = c .before .before .before .before .before .args in
+    let e = c .pend .ensures in
+    (omega arith, put-start (a .d .now) (a .at) (a .w) (a .t .now) (c .pend .result) (e .0) (e .1) (e .2))
 
-put-field-requires : tie.Need-put-field-requires Inv-loop μ-loop
-put-field-requires c κs =
+put-next-requires : tie.Need-put-next-requires Inv-loop μ-loop
+put-next-requires c κs =
     let at-loop = c .before .before .before in
-    let start = at-loop .before .before .before in
+    let start = at-loop .before .before .before .before .before .before in
     let a = start .args in
     let i : ℕ = at-loop .loop .i in
-    let n : ℕ = length (a .t .now) in (
-      omega arith,
+    let h = at-loop .loop .inv .1 in (
+      h .waits,
       omega arith,
       start .pre .1 i,
-      omega (arith, next-room (a .at) (a .w) i n (8 * length (a .d .now)) (omega arith) (omega arith)),
-      omega (arith, next-room (a .at) (a .w) i n (2 ^ 60) (omega arith) (omega arith)),
+      omega (arith, h .end, h .long, next-room (a .at) (a .w) i (length (a .t .now)) (8 * length (a .d .now)) (omega arith) (omega arith)),
     )
 
 loop-again : tie.Need-loop-again Inv-loop μ-loop
 loop-again c =
     let at-put = c .before .before in
     let at-loop = at-put .before .before .before .before in
-    let a = at-loop .before .before .before .args in
-    let i : ℕ = at-loop .loop .i in (
-      omega arith,
-      omega (arith, at-put .put-field .ensures .0),
-      at-put .put-field .ensures .1
-          ∙ ap₂ (λ (l : List ℕ) (p : ℕ). putAt l p (a .w) (getD (a .t .now) i 0)) (at-loop .loop .inv .2) (at-loop .loop .inv .1)
-          ∙ put-step (a .d .now) (a .t .now) (a .at) (a .w) i (omega arith),
-      at-put .put-field .kept .0 ∙ at-loop .loop .inv .3,
-    )
+    let e = at-put .put-next .ensures in
+    (omega arith, put-turn _ (at-loop .loop .inv .1) (omega arith) refl (e .0) (e .1) (e .2) (at-put .put-next .kept .0))
 
-returns : tie.Need-returns Inv-loop μ-loop
-returns c =
-    let at-loop = c .before in
-    let a = at-loop .before .before .before .args in
-    let end : at-loop .loop .i ≡ length (a .t .now) = omega arith in (
-      at-loop .loop .inv .1 ∙ ap (λ (i : ℕ). a .at + a .w * i) end,
-      at-loop .loop .inv .2 ∙ ap (λ (l : List ℕ). putAll (a .d .now) (a .at) (tableFields (a .w) l)) (ap (λ (i : ℕ). take i (a .t .now)) end ∙ take-length (a .t .now)),
-    )
+settle-requires : tie.Need-settle-requires Inv-loop μ-loop
+settle-requires c κs =
+    let at-loop = c .before .before in
+    let h = at-loop .loop .inv .1 in
+    let e = put-end h (omega arith) (omega arith) in
+    (h .waits, omega (arith, e .0, h .long), omega (arith, e .0))
+
+same-length : tie.Need-same-length Inv-loop μ-loop
+same-length c =
+    let at-settle = c .before .before in
+    at-settle .settle .kept .0 ∙ at-settle .before .before .before .loop .inv .1 .long
+
+returns-2 : tie.Need-returns-2 Inv-loop μ-loop
+returns-2 c =
+    let at-settle = c .before .before in
+    let e = put-end (at-settle .before .before .before .loop .inv .1) (omega arith) (omega arith) in
+    (at-settle .settle .ensures .0 ∙ e .0, at-settle .settle .ensures .1 ∙ e .1)
 
 pub put-table-spec : {M : Type 1} → statement M
 put-table-spec =
@@ -68,12 +77,15 @@ put-table-spec =
     (tie.spec
     Inv-loop
     μ-loop
+    returns
+    pend-requires
     loop-holds
     (λ c. search needs)
     (λ c. search needs)
-    put-field-requires
+    put-next-requires
     (λ c. search needs)
     (λ c. search needs)
     loop-again
-    (λ c. search needs)
-    returns)
+    settle-requires
+    same-length
+    returns-2)

@@ -10,7 +10,7 @@ use Rattle.averaging.proofs.coordinates.child_sums.Tie as tie
 returns : tie.Need-returns
 returns c =
     let a = c .before .before .before .args in
-    on-axes 0 (λ (axis r : ℕ). (r ≡ weighed (a .row .now) (gatheredAt (a .gathered .now) axis)) × (r < 2 ^ 41)) _ _ _
+    on-axes 0 (λ (axis r : ℕ). (r ≡ weighed (a .n) (a .row .now) (gatheredAt (a .gathered .now) axis)) × (r < 2 ^ 41)) _ _ _
     (c .before .before .weigh .ensures) (c .before .weigh2 .ensures) (c .weigh3 .ensures)
 
 pub child-sums-spec : {M : Type 1} → statement M

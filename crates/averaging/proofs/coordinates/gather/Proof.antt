@@ -68,7 +68,7 @@ returns : tie.Need-returns Inv-loop μ-loop
 returns c =
     let l = c .before .loop in
     let e : l .u ≡ c .before .before .before .args .n = omega arith in
-    (λ u a k h. l .inv .2 u a h ∙ ap (λ (n : ℕ). cornerCoordinate n (c .before .before .before .args .corners .now) (c .before .before .before .args .n * c .before .before .before .args .c) (c .before .before .before .args .xs .now) a u) e, l .inv .3)
+    (λ u a h. l .inv .2 u a h ∙ ap (λ (n : ℕ). cornerCoordinate n (c .before .before .before .args .corners .now) (c .before .before .before .args .n * c .before .before .before .args .c) (c .before .before .before .args .xs .now) a u) e, l .inv .3)
 
 pub gather-spec : {M : Type 1} → statement M
 gather-spec =

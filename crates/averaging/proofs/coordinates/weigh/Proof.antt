@@ -13,11 +13,11 @@ use Rattle.averaging.proofs.coordinates.weigh.Statement.{statement}
 use Rattle.averaging.proofs.coordinates.weigh.Tie as tie
 
 abbrev Inv-loop : tie.InvT-loop
-Inv-loop row gathered axis total₀ u₀ total u =
-    (u ≤ 8) × (total ≡ sumTo u (λ (u : ℕ). getD row u 0 * getD gathered (3 * u + axis) 0)) × (total ≤ u * (255 * 2 ^ 30))
+Inv-loop row n gathered axis total₀ u₀ total u =
+    (u ≤ n) × (total ≡ sumTo u (λ (u : ℕ). getD row u 0 * getD gathered (3 * u + axis) 0)) × (total ≤ u * (255 * 2 ^ 30))
 
 abbrev μ-loop : tie.MeasureT-loop
-μ-loop row gathered axis total₀ u₀ total u = 8 - u
+μ-loop row n gathered axis total₀ u₀ total u = n - u
 
 -- a weight is below 256, a coordinate below 2 ^ 30
 product : (w x : ℕ) → w < 256 → x < 2 ^ 30 → w * x ≤ 255 * 2 ^ 30
@@ -42,7 +42,7 @@ unfolding weighed
 returns c =
     let s = c .before .before in
     let l = c .before .loop in
-    let e : l .u ≡ 8 = omega arith in
+    let e : l .u ≡ s .args .n = omega arith in
     (l .inv .1 ∙ ap (λ (n : ℕ). sumTo n (λ (u : ℕ). getD (s .args .row .now) u 0 * getD (s .args .gathered .now) (3 * u + s .args .axis) 0)) e, omega (arith, l .inv .2, e))
 
 pub weigh-spec : {M : Type 1} → statement M

@@ -15,7 +15,7 @@ use Rattle.averaging.proofs.tallies.count_cell.Tie as tie
 
 abbrev Inv-loop : tie.InvT-loop
 Inv-loop gathered n weights fine base d words₀ longs₀ i₀ words longs i =
-    (i ≤ n) × Tallied (n * i) (λ (a : ℕ). repeat i (λ (i : ℕ). childStep n fine (base + n * i) d (weighed (getD weights i []) (gatheredAt gathered a)))) words₀ longs₀ words longs
+    (i ≤ n) × Tallied (n * i) (λ (a : ℕ). repeat i (λ (i : ℕ). childStep n fine (base + n * i) d (weighed n (getD weights i []) (gatheredAt gathered a)))) words₀ longs₀ words longs
 
 abbrev μ-loop : tie.MeasureT-loop
 μ-loop gathered n weights fine base d words₀ longs₀ i₀ words longs i = n - i
@@ -40,8 +40,8 @@ loop-again c =
     let l = c .before .before .before .before .before .before .before .before .before .before .loop in
     let at = a .base + a .n * l .i in (
       omega arith,
-      tallied-again (λ (x i : ℕ). childStep (a .n) (a .fine .now) (a .base + a .n * i) (a .d) (weighed (getD (a .weights .now) i []) (gatheredAt (a .gathered .now) x))) (l .i) (omega arith) (l .inv .1)
-          (tallied-by (λ (x : ℕ). childStep (a .n) (a .fine .now) at (a .d) (weighed (getD (a .weights .now) (l .i) []) (gatheredAt (a .gathered .now) x)))
+      tallied-again (λ (x i : ℕ). childStep (a .n) (a .fine .now) (a .base + a .n * i) (a .d) (weighed (a .n) (getD (a .weights .now) i []) (gatheredAt (a .gathered .now) x))) (l .i) (omega arith) (l .inv .1)
+          (tallied-by (λ (x : ℕ). childStep (a .n) (a .fine .now) at (a .d) (weighed (a .n) (getD (a .weights .now) (l .i) []) (gatheredAt (a .gathered .now) x)))
           (λ x f h t. ap (λ (s : ℕ). childStep (a .n) (a .fine .now) at (a .d) s f t) (c .before .before .before .before .before .before .before .child-sums .ensures x h .0)) (c .before .before .before .before .count-child .ensures)),
     )
 
@@ -49,7 +49,7 @@ returns : tie.Need-returns Inv-loop μ-loop
 unfolding cellStep
 returns c =
     let a = c .before .before .before .before .before .args in
-    tallied-end (λ (i : ℕ). a .n * i) (λ (x i : ℕ). childStep (a .n) (a .fine .now) (a .base + a .n * i) (a .d) (weighed (getD (a .weights .now) i []) (gatheredAt (a .gathered .now) x))) (omega arith) (c .before .loop .inv .1)
+    tallied-end (λ (i : ℕ). a .n * i) (λ (x i : ℕ). childStep (a .n) (a .fine .now) (a .base + a .n * i) (a .d) (weighed (a .n) (getD (a .weights .now) i []) (gatheredAt (a .gathered .now) x))) (omega arith) (c .before .loop .inv .1)
 
 pub count-cell-spec : {M : Type 1} → statement M
 count-cell-spec =

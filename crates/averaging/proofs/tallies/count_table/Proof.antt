@@ -50,7 +50,7 @@ loop-again c =
       omega arith,
       tallied-again (λ (x c : ℕ). cellStep (a .n) (a .weights .now) (cornerCoordinate (a .n) (a .corners .now) (a .n * c) (a .xs .now) x) (a .fine .now) (a .n * a .n * c) (a .d)) (l .c) (omega arith) (l .inv .1)
           (tallied-by (λ (x : ℕ). cellStep (a .n) (a .weights .now) (at x) (a .fine .now) base (a .d))
-          (λ x f h. cell-same (a .n) (a .weights .now) (gatheredAt (g .result) x) (at x) (a .fine .now) base (a .d) f (λ u k. g .ensures .0 u x k h)) (c .before .before .before .before .count-cell .ensures)),
+          (λ x f h. cell-same (a .n) (a .weights .now) (gatheredAt (g .result) x) (at x) (a .fine .now) base (a .d) f (λ u k. g .ensures .0 u x h)) (c .before .before .before .before .count-cell .ensures)),
     )
 
 returns : tie.Need-returns Inv-loop μ-loop

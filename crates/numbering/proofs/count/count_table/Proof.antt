@@ -12,8 +12,9 @@ count-table-spec =
     tie.close
     (tie.spec
     (λ c. search needs)
-    (λ c κs. let a = c .before .before .before .before .before in (omega (arith, c .before .if1 .left), omega (arith, a .pre, small-parts (a .args .of))))
-    (λ c κs. let a = c .before .before .before .before .before .before .before .before .before .before in (rw (a .pre) at (c .before .before .before .before .prepare-all .ensures), a .pre))
+    (λ c κs. search needs)
+    (λ c κs. let a = c .before .before .before .before .before .before in (omega (arith, c .before .before .if1 .left), omega (arith, a .pre, small-parts (a .args .of))))
+    (λ c κs. let a = c .before .before .before .before .before .before .before .before .before .before .before in (rw (a .pre) at (c .before .before .before .before .prepare-for .ensures), a .pre))
     (λ c. search needs)
     (λ c. search needs)
-    (λ c. let m = c .before .before .before .before in let a = c .before .before .before .before .before .before .before .before .before .before .before .before .before .before .before in counted (met-none (rw (a .pre) at (c .before .before .before .before .before .before .before .before .before .prepare-all .ensures))) _ (tableKeys (a .args .of) (a .args .cells .now)) (m .meet-table .result) (m .meet-table .ensures)))
+    (λ c. let m = c .before .before .before .before in let a = c .before .before .before .before .before .before .before .before .before .before .before .before .before .before .before .before in counted (met-none (rw (a .pre) at (c .before .before .before .before .before .before .before .before .before .prepare-for .ensures))) _ (tableKeys (a .args .of) (a .args .cells .now)) (m .meet-table .result) (m .meet-table .ensures)))

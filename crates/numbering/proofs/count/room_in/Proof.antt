@@ -8,13 +8,11 @@ use Rattle.numbering.proofs.count.room_in.Tie as tie
 
 returns : tie.Need-returns
 returns c =
-    let x = c .before .args in
-    (omega (arith, mul-div-le (x .words - 1) (x .c + 2)), omega arith)
-
-returns-2 : tie.Need-returns-2
-returns-2 c =
-    let x = c .before .args in
-    (omega (arith, mul-div-le (x .words - 1) (x .c + 2), mul-le-mul-left (x .c + 2) (c .if1 .left)), omega arith)
+    let x = c .before .before .args in
+    let r = c .least2 .ensures in
+    (omega (arith, mul-div-le (x .words - 1) (x .c + 2), mul-le-mul-left (x .c + 2) (r .0)), omega (arith, r .1, c .before .least .ensures .1))
 
 pub room-in-spec : {M : Type 1} → statement M
-room-in-spec = tie.close (tie.spec (λ c. search needs) (λ c. search needs) (λ c. search needs) returns returns-2)
+room-in-spec =
+    tie.close
+    (tie.spec (λ c κs. search needs) (λ c. search needs) (λ c. search needs) (λ c. search needs) (λ c κs. search needs) returns)

@@ -1,27 +1,24 @@
 -- `numbering::parts::meet_part` meets its contract: what is read and put in order is the part's key. Assumes nothing.
 use mathlib.Core.Path.{_≡_, ap, _∙_}
-use mathlib.Core.List.{[]}
-use lib.ListN.{length, getD}
+use lib.ListN.{length}
 use borrow.Author.Needs.{needs}
 use Rattle.rules.specs.Lists.{keyOf}
 use Rattle.rules.specs.Split.{keyAt}
-use Rattle.numbering.specs.Parts.{placesOf, partCorners}
 use Rattle.numbering.proofs.parts.meet_part.Statement.{statement}
 use Rattle.numbering.proofs.parts.meet_part.Tie as tie
 
 key-is : (s : tie.After-sort) →
-    let x = s .before .before .before .before .before .before .before .before .before .args in
-    (s .sort .last .0 ≡ keyAt (x .cell .now) (getD (placesOf (x .parts)) (x .part) [])) × (length (s .sort .last .0) ≡ partCorners (x .parts))
+    let x = s .before .before .before .before .before .before .before .before .before .before .args in
+    (s .sort .last .0 ≡ keyAt (x .cell .now) (x .places .now)) × (length (s .sort .last .0) ≡ length (x .key .now))
 unfolding keyAt
 key-is s =
     let d = s .before .before .before .before in
-    let a = d .before .before .before .before .before in
-    (s .sort .ensures ∙ ap keyOf (d .load .ensures), s .sort .kept .0 ∙ d .load .kept .1 .1 .1 .0 ∙ a .pre .1 .1 .1)
+    (s .sort .ensures ∙ ap keyOf (d .load .ensures), s .sort .kept .0 ∙ d .load .kept .1 .1 .0)
 
 meet-requires : tie.Need-meet-requires
 meet-requires c κs =
     let s = c .before .before .before .before in
-    rw (key-is s .1) (s .before .before .before .before .before .before .before .before .before .pre .0)
+    rw (key-is s .1) (s .before .before .before .before .before .before .before .before .before .before .pre .0)
 
 returns : tie.Need-returns
 returns c =

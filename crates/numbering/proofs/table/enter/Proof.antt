@@ -1,5 +1,4 @@
 -- `numbering::table::enter` meets its contract: its stores make `entered`. Assumes nothing.
-use mathlib.Core.Path.{_≡_}
 use Prim.Native.Nat.{_+_, _≤_, _<_}
 use native.Mathlib.Numerals.{add-one}
 use native.Mathlib.Omega.{arith}

@@ -6,7 +6,6 @@ use lib.ListN.{length}
 use lib.Seq.{length-take-le}
 use borrow.Author.Needs.{needs}
 use Rattle.splitting.specs.Words.{facesAt}
-use Rattle.splitting.proofs.KindParts.{edge-corners, edge-cell}
 use Rattle.splitting.proofs.Halves.{full-part, first-back, rest-kept}
 use Rattle.splitting.proofs.cells.number_edges.Statement.{statement}
 use Rattle.splitting.proofs.cells.number_edges.Tie as tie
@@ -17,26 +16,22 @@ inside a = full-part (facesAt (a .args .base)) (a .args .w .now) (omega (arith, 
 
 number-parts-requires : tie.Need-number-parts-requires
 number-parts-requires c κs =
-    let a = c .before .before .before .before .before .before .before .before in
-    let k = a .args .kind in
-    rw (c .before .before .before .before .edges-of .ensures)
-    (rw (edge-corners k, edge-cell k) (a .pre .0, (a .pre .1 .0, (a .pre .1 .1 .0, (refl, (a .pre .1 .1 .1 .0, a .pre .1 .1 .1 .1))))))
+    let p = c .before .before .before .before .before .before .before .before .pre in
+    (p .0, (p .1 .0, (refl, p .1 .1)))
 
 returns : tie.Need-returns
 returns c =
     let a = c .before .before .before .before .before .before .before .before .before .before .before .before .before .before in
     let x = a .args in
-    let m = c .before .before .before .before .before in
-    let p = m .number-parts .last .0 in
-    let back = first-back (facesAt (x .base)) (x .w .now) p (inside a) (m .number-parts .kept .0) in
-    let kept = rest-kept (facesAt (x .base)) (x .w .now) p (inside a) (m .number-parts .kept .0) in
-    (rw back (rw (edge-corners (x .kind)) at (rw (c .before .before .before .before .before .before .before .before .before .before .edges-of .ensures) at (m .number-parts .ensures))), kept)
+    let m = c .before .before .before .before .before .number-parts in
+    let back = first-back (facesAt (x .base)) (x .w .now) (m .last .0) (inside a) (m .kept .0) in
+    let kept = rest-kept (facesAt (x .base)) (x .w .now) (m .last .0) (inside a) (m .kept .0) in
+    (rw back (m .ensures), kept)
 
 pub number-edges-spec : {M : Type 1} → statement M
 number-edges-spec =
     tie.close
     (tie.spec
-    (λ c κs. search needs)
     (λ c. search needs)
     (λ c. search needs)
     (λ c. inside (c .before .before .before .before .before))

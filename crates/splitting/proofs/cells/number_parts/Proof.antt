@@ -5,7 +5,7 @@ use Rattle.splitting.proofs.cells.number_parts.Statement.{statement}
 use Rattle.splitting.proofs.cells.number_parts.Tie as tie
 
 returns : tie.Need-returns
-returns c = absurd (omega (arith, rw (c .enum-told .given .1) at (c .before .before .before .before .before .before .before .before .meet-parts .ensures), c .before .before .before .before .before .before .before .before .before .before .before .before .before .before .before .before .pre .1 .0))
+returns c = absurd (omega (arith, rw (c .enum-told .given .1) at (c .before .before .before .before .before .before .before .before .meet-parts .ensures), c .before .before .before .before .before .before .before .before .before .before .before .before .before .before .before .before .before .pre .1 .0))
 
 returns-2 : tie.Need-returns-2
 returns-2 c = rw (c .before .met .given .1) at (c .before .before .before .before .before .before .before .before .before .meet-parts .ensures)

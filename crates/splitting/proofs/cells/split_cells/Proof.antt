@@ -1,123 +1,59 @@
--- `splitting::cells::split_cells` meets its contract. The invariant is `Walked`: the first i cells have been split. Assumes nothing.
-use mathlib.Core.Path.{_≡_, refl, sym, ap, _∙_}
-use mathlib.Core.List.{List, [], _++_}
-use Prim.Native.Nat.{ℕ, suc, _+_, _*_, _/_, _-_, _^_, _≤_, _<_}
-use native.Mathlib.Nat.{mul-assoc, mul-le-mul-left, div-le-self}
+-- `splitting::cells::split_cells` meets its contract: what is lent are the tables of the kind. Assumes nothing.
+use mathlib.Core.Path.{_≡_, sym, ap, _∙_}
+use Prim.Native.Nat.{ℕ, _*_}
 use native.Mathlib.Omega.{arith}
-use lib.ListN.{length, take, drop}
-use lib.Seq.{sets, take-all}
+use lib.ListN.{length, take}
 use borrow.Author.Needs.{needs}
-use Rattle.rules.specs.Lists.{concatMap, upFrom, Key, meetAll}
-use Rattle.lists.proofs.Tables.{length-cut}
-use Rattle.numbering.specs.Parts.{partKeys}
-use Rattle.numbering.proofs.Passes.{met-none}
-use Rattle.splitting.specs.declared.kinds.CellKind.{CellKind}
-use Rattle.splitting.specs.declared.cells.Base.{Base}
-use Rattle.splitting.specs.declared.cells.Known.{Known}
-use Rattle.splitting.specs.Kinds.{kindOf, cornerCount, edgesOf, facesOf}
-use Rattle.splitting.specs.Cells.{cellsIn, entryOf, edgesMet, facesMet, cellNumbers, childCorners, firstChildren}
-use Rattle.splitting.specs.Words.{edgesIn, facesIn, Room, BothMet, CellSplit, TableSplit}
-use Rattle.splitting.proofs.KindParts.{some-corners}
-use Rattle.splitting.proofs.Tables.{children-length}
-use Rattle.splitting.proofs.Walk.{next-met, from-here, next-fits, first-turn}
+use Rattle.numbering.specs.Parts.{placesListed}
+use Rattle.numbering.proofs.Places.{few-listed}
+use Rattle.splitting.specs.Kinds.{edgesOf, facesOf, smallestListed, Listed}
+use Rattle.splitting.proofs.KindParts.{edge-corners, face-corners, edge-length, face-length}
+use Rattle.splitting.proofs.Tables.{length-smallest, few-smallest}
 use Rattle.splitting.proofs.cells.split_cells.Statement.{statement}
 use Rattle.splitting.proofs.cells.split_cells.Tie as tie
 
--- the first i cells have been split
-record Walked (base : Base) (w₀ w : List ℕ) (n : Known) (kind : CellKind) (cells : List ℕ) (own : ℕ) (old new : List ℕ) (known : Known) (i : ℕ) : Type 0 where
-  below : i ≤ length cells / cornerCount kind
-  met : BothMet base w₀ w n (edgesMet kind (take i (cellsIn kind cells))) (facesMet kind (take i (cellsIn kind cells))) known
-  stored : TableSplit base w₀ n kind cells own i old new
+-- how many numbers are listed
+edges-end : (c : tie.After-count-of) → 2 * c .count-of .result ≡ length (placesListed (edgesOf (c .before .before .before .before .before .before .before .before .before .before .args .kind)))
+edges-end c = rw (c .count-of .ensures, c .before .before .before .before .before .before .edges-of .ensures) (sym (edge-length (c .before .before .before .before .before .before .before .before .before .before .args .kind)))
 
-start : (base : Base) (w : List ℕ) (n : Known) (kind : CellKind) (cells : List ℕ) (own : ℕ) (old : List ℕ) (es fs : List Key) → Room base w n es fs → Walked base w w n kind cells own old old n 0
-unfolding concatMap upFrom firstChildren
-start base w n kind cells own old es fs r = record {
-  below = omega arith;
-  met = record { edges = met-none (r .edge-table); faces = met-none (r .face-table) };
-  stored = λ es fs. refl;
+faces-end : (c : tie.After-count-of2) → 4 * c .count-of2 .result ≡ length (placesListed (facesOf (c .before .before .before .before .before .before .before .before .before .before .before .args .kind)))
+faces-end c = rw (c .count-of2 .ensures, c .before .before .before .before .before .before .faces-of .ensures) (sym (face-length (c .before .before .before .before .before .before .before .before .before .before .before .args .kind)))
+
+end : (c : tie.After-corner-count) → c .corner-count .result * c .corner-count .result ≡ length (smallestListed (c .before .before .before .before .before .before .args .kind))
+end c = rw (c .corner-count .ensures) (sym (length-smallest (c .before .before .before .before .before .before .args .kind)))
+
+-- what is lent
+listed-is : (c : tie.After-count-of2) →
+    let k = c .before .before .before .before .before .corner-count .result in
+    Listed (c .before .before .before .before .before .before .before .before .before .before .before .args .kind) (take (2 * c .before .count-of .result) (c .before .before .before .before .listed .result)) (take (4 * c .count-of2 .result) (c .before .before .before .listed2 .result)) (take (k * k) (c .before .before .listed3 .result))
+listed-is c = record {
+  edges-are = ap (λ (n : ℕ). take n (c .before .before .before .before .listed .result)) (edges-end (c .before)) ∙ (rw (c .before .before .before .before .before .before .before .edges-of .ensures) at (c .before .before .before .before .listed .ensures));
+  faces-are = ap (λ (n : ℕ). take n (c .before .before .before .listed2 .result)) (faces-end c) ∙ (rw (c .before .before .before .before .before .before .faces-of .ensures) at (c .before .before .before .listed2 .ensures));
+  smallest-are = ap (λ (n : ℕ). take n (c .before .before .listed3 .result)) (end (c .before .before .before .before .before)) ∙ c .before .before .listed3 .ensures;
 }
-
-module _ {base : Base} {w₀ w : List ℕ} {n : Known} {kind : CellKind} {cells : List ℕ} {own : ℕ} {old new : List ℕ} {known : Known} {i : ℕ} (p : Walked base w₀ w n kind cells own old new known i) (l : i < length cells / cornerCount kind) where
-  listed : i < length (cellsIn kind cells)
-  listed = omega (arith, length-cut (cornerCount kind) cells)
-
-  -- room for all is room for the next cell
-  next-room : Room base w₀ n (edgesMet kind (cellsIn kind cells)) (facesMet kind (cellsIn kind cells)) → Room base w known (partKeys (edgesOf kind) (entryOf kind cells i)) (partKeys (facesOf kind) (entryOf kind cells i))
-  next-room r = record {
-    edge-table = p .met .edges .table;
-    face-table = p .met .faces .table;
-    edges-fit = next-fits (partKeys (edgesOf kind)) (cellsIn kind cells) i listed (p .met .edges) (r .edges-fit);
-    faces-fit = next-fits (partKeys (facesOf kind)) (cellsIn kind cells) i listed (p .met .faces) (r .faces-fit);
-  }
-
-  -- the next cell was split
-  turn : {w′ new′ : List ℕ} {more : Known} → BothMet base w w′ known (partKeys (edgesOf kind) (entryOf kind cells i)) (partKeys (facesOf kind) (entryOf kind cells i)) more → CellSplit base w known kind (entryOf kind cells i) (own + i) (cornerCount kind * (cornerCount kind * i)) new new′ → Walked base w₀ w′ n kind cells own old new′ more (i + 1)
-  unfolding firstChildren
-  turn {w′} {new′} {more} m s = record {
-    below = omega arith;
-    met = record {
-      edges = next-met (partKeys (edgesOf kind)) (cellsIn kind cells) i listed (p .met .edges) (m .edges);
-      faces = next-met (partKeys (facesOf kind)) (cellsIn kind cells) i listed (p .met .faces) (m .faces);
-    };
-    stored = λ es fs.
-        let cs = cellsIn kind cells in
-        let cc = cornerCount kind in
-        let all-edges = meetAll (edgesIn base w₀ n) (edgesMet kind cs ++ es) in
-        let all-faces = meetAll (facesIn base w₀ n) (facesMet kind cs ++ fs) in
-        let g : ℕ → List ℕ = λ j. childCorners (kindOf kind) (cellNumbers kind (base .vertices) all-edges (base .vertices + base .edges) all-faces (own + j) (entryOf kind cells j)) in
-        (rw (from-here (partKeys (edgesOf kind)) cs i listed (p .met .edges) es, from-here (partKeys (facesOf kind)) cs i listed (p .met .faces) fs)
-        at (s (edgesMet kind (drop (suc i) cs) ++ es) (facesMet kind (drop (suc i) cs) ++ fs)))
-        ∙ ap (λ (o : List ℕ). sets o (cc * (cc * i)) (g i)) (p .stored es fs)
-        ∙ ap (λ (x : ℕ). sets (sets old 0 (concatMap g (upFrom 0 i))) x (g i)) (sym (mul-assoc cc cc i))
-        ∙ first-turn g (cc * cc) (λ j. children-length kind _) old i;
-  }
-
--- all cells have been split
-end : {base : Base} {w₀ w : List ℕ} {n : Known} {kind : CellKind} {cells : List ℕ} {own : ℕ} {old new : List ℕ} {known : Known} {i : ℕ} → Walked base w₀ w n kind cells own old new known i → length cells / cornerCount kind ≤ i → BothMet base w₀ w n (edgesMet kind (cellsIn kind cells)) (facesMet kind (cellsIn kind cells)) known × TableSplit base w₀ n kind cells own (length cells / cornerCount kind) old new
-end {base} {w₀} {w} {n} {kind} {cells} {own} {old} {new} {known} {i} p l =
-    let e : i ≡ length cells / cornerCount kind = omega (arith, p .below) in
-    (rw (take-all i (cellsIn kind cells) (omega (arith, length-cut (cornerCount kind) cells))) at (p .met), rw e at (p .stored))
-
-abbrev Inv-loop : tie.InvT-loop
-Inv-loop w₀ base kind cells own out₀ count known₀ i₀ w out known i =
-    (length w ≡ length w₀) × (length out ≡ length out₀) × Walked base w₀ w known₀ kind cells own out₀ out known i
-
-abbrev μ-loop : tie.MeasureT-loop
-μ-loop w₀ base kind cells own out₀ count known₀ i₀ w out known i = count - i
-
--- the cell is one of the table's
-inside : (c : tie.In-loop Inv-loop μ-loop) → let a = c .before .before .before .before .before .before in c .before .loop .i < length (a .args .cells .now) / cornerCount (a .args .kind)
-inside c = rw (c .before .before .corner-count .ensures) at (c .loop-test .taken)
-
-split-entry-requires : tie.Need-split-entry-requires Inv-loop μ-loop
-split-entry-requires c κs =
-    let l = c .before .before .before in
-    let a = c .before .before .before .before .before .before .before .before in
-    let k = cornerCount (a .args .kind) in
-    let u = inside (c .before .before) in
-    let h = mul-le-mul-left k (mul-le-mul-left k u) in
-    (next-room (l .loop .inv .2) u (a .pre .0), (u, (a .pre .1 .0, (omega (arith, a .pre .1 .1 .0), omega (arith, a .pre .1 .1 .1, l .loop .inv .1)))))
-
-loop-again : tie.Need-loop-again Inv-loop μ-loop
-loop-again c =
-    let l = c .before .before .before .before .before .before .before .before in
-    let d = c .before .before .before .before .split-entry in
-    (d .kept .0 ∙ l .loop .inv .0, d .kept .1 .1 .1 .1 .1 .1 .1 .0 ∙ l .loop .inv .1, turn (l .loop .inv .2) (inside (c .before .before .before .before .before .before .before)) (d .ensures .0) (d .ensures .1))
 
 pub split-cells-spec : {M : Type 1} → statement M
 split-cells-spec =
     tie.close
     (tie.spec
-    Inv-loop
-    μ-loop
     (λ c κs. search needs)
-    (λ c. rw (c .corner-count .ensures) (some-corners (c .before .before .before .before .args .kind)))
-    (λ c. (refl, refl, start _ _ _ _ _ _ _ _ _ (c .before .before .before .before .pre .0)))
-    (λ c. omega (arith, inside (c .before), c .before .before .before .before .before .before .before .pre .1 .1 .0))
-    split-entry-requires
-    (λ c. let a = c .before .before .before .before .before .before .before .before .before .before .before .before .before .args in omega (arith, inside (c .before .before .before .before .before .before .before), div-le-self (length (a .cells .now)) (cornerCount (a .kind))))
-    (λ c. omega (arith, c .before .before .before .before .before .before .before .loop-test .taken))
-    loop-again
-    (λ c. c .before .loop .inv .0)
-    (λ c. c .before .loop .inv .1)
-    (λ c. end (c .before .loop .inv .2) (rw (c .before .before .corner-count .ensures) at (c .loop-test .left))))
+    (λ c κs. search needs)
+    (λ c κs. search needs)
+    (λ c κs. rw (c .before .before .edges-of .ensures) (sym (edge-corners (c .before .before .before .before .before .before .args .kind))))
+    (λ c κs. rw (c .before .before .faces-of .ensures) (sym (face-corners (c .before .before .before .before .before .before .before .args .kind))))
+    (λ c κs. search needs)
+    (λ c κs. search needs)
+    (λ c. omega (arith, edges-end c, few-listed (edgesOf (c .before .before .before .before .before .before .before .before .before .before .args .kind))))
+    (λ c κs. search needs)
+    (λ c. omega (arith, faces-end c, few-listed (facesOf (c .before .before .before .before .before .before .before .before .before .before .before .args .kind))))
+    (λ c. omega (arith, end (c .before .before .before .before .before), few-smallest (c .before .before .before .before .before .before .before .before .before .before .before .args .kind)))
+    (λ c. omega (arith, edges-end (c .before .before), few-listed (edgesOf (c .before .before .before .before .before .before .before .before .before .before .before .before .args .kind))))
+    (λ c. let d = c .before .before in edges-end (d .before) ∙ sym (ap length (listed-is d .edges-are)))
+    (λ c. omega (arith, faces-end (c .before .before), few-listed (facesOf (c .before .before .before .before .before .before .before .before .before .before .before .before .before .args .kind))))
+    (λ c. let d = c .before .before .before in faces-end d ∙ sym (ap length (listed-is d .faces-are)))
+    (λ c. omega (arith, end (c .before .before .before .before .before .before .before .before), few-smallest (c .before .before .before .before .before .before .before .before .before .before .before .before .before .before .args .kind)))
+    (λ c. let d = c .before .before .before .before in end (d .before .before .before .before .before) ∙ sym (ap length (listed-is d .smallest-are)))
+    (λ c κs. let p = c .before .before .before .before .before .before .before .before .before .before .before .before .before .before .before .before .pre in (p .0, (listed-is (c .before .before .before .before .before), p .1)))
+    (λ c. search needs)
+    (λ c. search needs)
+    (λ c. c .before .before .before .before .split-each .ensures))

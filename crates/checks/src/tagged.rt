@@ -1,0 +1,61 @@
+// A table of keys in lent memory with a tag for each key: 3 numbers more than a key has, and one more for all.
+use numbering::table;
+ghost use Prim.Native.Nat.{_+_, _^_, _≤_, _<_};
+ghost use lib.ListN.{length};
+ghost use Rattle.numbering.specs.Table.{wordsFor};
+ghost use Rattle.checks.specs.Tagged.{Tagged, TagMet};
+
+// What meeting a key with a tag finds: a new key, or one that has this tag, and the count of keys; or another tag; or no room.
+pub enum Met {
+    Agrees(usize),
+    Differs,
+    Full,
+}
+
+fn least(a: usize, b: usize) -> usize
+    ensures { λ r. ⌜ (r ≤ a) × (r ≤ b) ⌝ }
+{
+    if a < b { a } else { b }
+}
+
+// For how many keys of c numbers so many words have room, of which there is at least one; not for more than `most`: fewer heads stay in
+// the cache.
+fn room_in(words: usize, c: usize, most: usize) -> usize
+    requires { ⌜ (0 < words) × (c ≤ 8) ⌝ }
+    ensures { λ r. ⌜ (wordsFor c r + r ≤ words) × (r + 1 < 2 ^ 32) ⌝ }
+{
+    let fits = (words - 1) / (c + 3);
+    least(least(most, fits), 4294967294)
+}
+
+// Makes a table of no key with room for `most` keys of c numbers, or for as many as the memory holds; the answer is its room.
+pub fn prepare(w: &mut [u32], c: usize, most: usize) -> usize
+    requires { ⌜ (0 < length (now w)) × (c ≤ 8) ⌝ }
+    ensures { λ r. ⌜ Tagged c (now (w .exit)) r 0 ⌝ }
+{
+    let room = room_in(w.len(), c, most);
+    let size = room + 1 + (c + 1) * room;
+    table::prepare(&mut w[..size], room);
+    room
+}
+
+// Meets a key with a tag in a table of n keys.
+pub fn meet(w: &mut [u32], room: usize, n: usize, key: &[u32], tag: u32) -> Met
+    requires { ⌜ Tagged (length (now key)) (now w) room n ⌝ }
+    ensures { λ r. ⌜ TagMet (length (now (key .entry))) (now (w .entry)) (now (w .exit)) room n (now (key .entry)) tag r ⌝ }
+{
+    let size = room + 1 + (key.len() + 1) * room;
+    let met = table::meet(&mut w[..size], room, n, key);
+    let table::Meeting::At(number, count) = met else {
+        return Met::Full;
+    };
+    let at = size + number;
+    if n < count {
+        w[at] = tag;
+        return Met::Agrees(count);
+    }
+    if w[at] == tag {
+        return Met::Agrees(count);
+    }
+    Met::Differs
+}
