@@ -183,7 +183,8 @@ fn sweep_all(
     Verdict::Passes(n)
 }
 
-// Goes over all of them, in `fewest` classes, twice as many and so on up to 1024, until each class fits the memory.
+// Goes over all of them, in `fewest` classes or more, up to 1024, until each class fits the memory. A class that does not fit is given up
+// before its end: that costs less than one class too many.
 pub fn find(
     w: &mut [u32],
     of: Walk,
@@ -207,7 +208,7 @@ pub fn find(
         let Verdict::Unknown = found else {
             return found;
         };
-        classes *= 2;
+        classes += 1 + classes / 8;
     }
     Verdict::Unknown
 }
