@@ -48,7 +48,6 @@ fn read(of: Walk, hexes: &[u32], quads: &[u32], segments: &[u32], i: usize, corn
     ensures { λ _.
         ⌜ now (corners .exit) ≡ getD (walked of (length (now (corners .entry))) (now (hexes .entry)) (now (quads .entry)) (now (segments .entry))) i [] ⌝ }
 {
-    let k = corners.len();
     match of {
         Walk::Edges => {
             let part = parts::part_at(1, hexes, quads, segments, i);
@@ -59,6 +58,7 @@ fn read(of: Walk, hexes: &[u32], quads: &[u32], segments: &[u32], i: usize, corn
             memory::copy_u32(&part, corners);
         }
         Walk::Cells => {
+            let k = corners.len();
             let at = k * i;
             let end = at + k;
             memory::copy_u32(&hexes[at..end], corners);
@@ -66,7 +66,7 @@ fn read(of: Walk, hexes: &[u32], quads: &[u32], segments: &[u32], i: usize, corn
     }
 }
 
-// The class of some corners among so many classes.
+// The class of some corners among so many classes; a single one holds all.
 fn class_of(corners: &[u32], classes: usize) -> usize
     requires { ⌜ (length (now corners) ≤ 8) × (classes ≤ 1024) ⌝ }
     ensures { λ r. ⌜ r ≡ classOf classes (now (corners .entry)) ⌝ }
