@@ -5,7 +5,6 @@ use crate::faces;
 use crate::parts;
 use crate::tagged;
 use crate::tagged::Met;
-use numbering::keys;
 ghost use mathlib.Core.Path.{_≡_};
 ghost use mathlib.Core.List.{[]};
 ghost use Prim.Native.Nat.{_≤_, _<_};
@@ -115,8 +114,7 @@ fn meet_in_class(
         return Met::Agrees(n);
     }
     let tag = tag_of(of, corners);
-    keys::sort(corners);
-    tagged::meet(w, room, n, corners, tag)
+    tagged::meet_corners(w, room, n, corners, tag)
 }
 
 // Goes over one class.
