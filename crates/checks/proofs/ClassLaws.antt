@@ -101,14 +101,16 @@ module _ {A B : Type 0} (f : A → B) (p : B → Bool) (q : A → Bool) (same : 
   keep-map [] = refl
   keep-map (x ∷ xs) = rw (same x) (go (q x) (keep-map xs))
     where
-      go : (b : Bool) → keep p (map f xs) ≡ map f (keep q xs) → cond b (f x ∷ keep p (map f xs)) (keep p (map f xs)) ≡ map f (cond b (x ∷ keep q xs) (keep q xs))
+      go : (b : Bool) → keep p (map f xs) ≡ map f (keep q xs)
+          → cond b (f x ∷ keep p (map f xs)) (keep p (map f xs)) ≡ map f (cond b (x ∷ keep q xs) (keep q xs))
       go true e = ap (λ (l : List B). f x ∷ l) e
       go false e = e
 
 pub class-distinct : (m class : ℕ) (ps : List (List ℕ))
     → length (distinct (map keyOf (keep (inClass m class) ps))) ≡ length (keep (inClass m class) (distinct (map keyOf ps)))
 class-distinct m class ps =
-    ap (λ (ks : List Key). length (distinct ks)) (sym (keep-map keyOf (inClass m class) (inClass m class) (λ p. ap (λ (n : ℕ). eqb n class) (class-key m p)) ps))
+    ap (λ (ks : List Key). length (distinct ks))
+    (sym (keep-map keyOf (inClass m class) (inClass m class) (λ p. ap (λ (n : ℕ). eqb n class) (class-key m p)) ps))
     ∙ distinct-keep (inClass m class) (map keyOf ps)
 
 -- ---- the classes one after the other

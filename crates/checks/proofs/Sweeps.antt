@@ -70,11 +70,13 @@ module _ {of : Walk} {ps : List (List ℕ)} {c : ℕ} {w : List ℕ} {room n : �
           rw stays (a .others (indexOf (keyOf q) (distinct (map keyOf ps))) small ∙ s .agree q j)
 
   -- p differs from one of them with its corners
-  swept-differs : (p : List ℕ) → Differed c w room n (keyOf p) (tagFor of p) → (all : List (List ℕ)) → In p all → ((q : List ℕ) → In q ps → In q all) → Apart of all
+  swept-differs : (p : List ℕ) → Differed c w room n (keyOf p) (tagFor of p) → (all : List (List ℕ)) → In p all
+      → ((q : List ℕ) → In q ps → In q all) → Apart of all
   swept-differs p d all i within =
       let r = in-map keyOf ps (keyOf p) (in-distinct (map keyOf ps) (keyOf p) (rw (s .keys-are) at (d .known))) in
       let q = r .0 in
-      let place : indexOf (keyOf p) (keys c (front c room w) room n) ≡ indexOf (keyOf q) (distinct (map keyOf ps)) = ap (indexOf (keyOf p)) (s .keys-are) ∙ ap (λ (k : Key). indexOf k (distinct (map keyOf ps))) (r .2) in
+      let place : indexOf (keyOf p) (keys c (front c room w) room n) ≡ indexOf (keyOf q) (distinct (map keyOf ps)) =
+      ap (indexOf (keyOf p)) (s .keys-are) ∙ ap (λ (k : Key). indexOf k (distinct (map keyOf ps))) (r .2) in
       record {
         one = p;
         other = q;
@@ -98,7 +100,8 @@ module _ {A : Type 0} (t : A → Bool) where
   keep-append [] ys = refl
   keep-append (x ∷ xs) ys = go (t x) (keep-append xs ys)
     where
-      go : (b : Bool) → keep t (xs ++ ys) ≡ keep t xs ++ keep t ys → cond b (x ∷ keep t (xs ++ ys)) (keep t (xs ++ ys)) ≡ cond b (x ∷ keep t xs) (keep t xs) ++ keep t ys
+      go : (b : Bool) → keep t (xs ++ ys) ≡ keep t xs ++ keep t ys
+          → cond b (x ∷ keep t (xs ++ ys)) (keep t (xs ++ ys)) ≡ cond b (x ∷ keep t xs) (keep t xs) ++ keep t ys
       go true e = ap (λ (l : List A). x ∷ l) e
       go false e = e
 
@@ -111,10 +114,12 @@ pub record Sweeping (of : Walk) (m class : ℕ) (ps : List (List ℕ)) (c : ℕ)
   pub below : i ≤ length ps
   swept : Swept of (keep (inClass m class) (take i ps)) c w room n
 
-pub sweep-tagged : {of : Walk} {m class : ℕ} {ps : List (List ℕ)} {c : ℕ} {w : List ℕ} {room n i : ℕ} → Sweeping of m class ps c w room n i → Tagged c w room n
+pub sweep-tagged : {of : Walk} {m class : ℕ} {ps : List (List ℕ)} {c : ℕ} {w : List ℕ} {room n i : ℕ} → Sweeping of m class ps c w room n i
+    → Tagged c w room n
 sweep-tagged s = s .swept .tagged
 
-pub sweep-start : (of : Walk) (m class : ℕ) (ps : List (List ℕ)) {c : ℕ} {w : List ℕ} {room : ℕ} → Tagged c w room 0 → Sweeping of m class ps c w room 0 0
+pub sweep-start : (of : Walk) (m class : ℕ) (ps : List (List ℕ)) {c : ℕ} {w : List ℕ} {room : ℕ} → Tagged c w room 0
+    → Sweeping of m class ps c w room 0 0
 unfolding keys upFrom distinct meetAll keep
 sweep-start of m class ps t = record { below = omega arith; swept = record { tagged = t; keys-are = refl; agree = λ p i. absurd i } }
 
@@ -130,7 +135,8 @@ module _ {of : Walk} {m class : ℕ} {ps : List (List ℕ)} {c : ℕ} {w : List 
     this-met : (a : Met) → r ≡ a → ClassMet m class this c w w′ room n (tagFor of this) a
     this-met a f = rw (e, d, f) at met
 
-  pub sweep-turn : {w′ p : List ℕ} {k count : ℕ} {r : Met} → p ≡ getD ps i [] → k ≡ c → r ≡ Agrees count → ClassMet m class p k w w′ room n (tagFor of p) r → Sweeping of m class ps c w′ room count (i + 1)
+  pub sweep-turn : {w′ p : List ℕ} {k count : ℕ} {r : Met} → p ≡ getD ps i [] → k ≡ c → r ≡ Agrees count
+      → ClassMet m class p k w w′ room n (tagFor of p) r → Sweeping of m class ps c w′ room count (i + 1)
   sweep-turn {w′} {p} {k} {count} {r} e d f met = record { below = omega arith; swept = rw next (go (inClass m class this) refl) }
     where
       here : ClassMet m class this c w w′ room n (tagFor of this) (Agrees count)
@@ -142,7 +148,8 @@ module _ {of : Walk} {m class : ℕ} {ps : List (List ℕ)} {c : ℕ} {w : List 
           let o = here .outside e in
           rw (append-nil (keep (inClass m class) (take i ps)), o .0, o .1) (s .swept)
 
-  pub sweep-differs : {w′ p : List ℕ} {k : ℕ} {r : Met} → p ≡ getD ps i [] → k ≡ c → r ≡ Differs → ClassMet m class p k w w′ room n (tagFor of p) r → Apart of (keep (inClass m class) ps)
+  pub sweep-differs : {w′ p : List ℕ} {k : ℕ} {r : Met} → p ≡ getD ps i [] → k ≡ c → r ≡ Differs
+      → ClassMet m class p k w w′ room n (tagFor of p) r → Apart of (keep (inClass m class) ps)
   sweep-differs {w′} {p} {k} {r} e d f met = go (inClass m class this) refl
     where
       here : ClassMet m class this c w w′ room n (tagFor of this) Differs
@@ -175,14 +182,22 @@ pub record Totalling (of : Walk) (m : ℕ) (ps : List (List ℕ)) (n class : ℕ
   pub agree : (p q : List ℕ) → In p ps → In q ps → keyOf p ≡ keyOf q → classOf m p < class → tagFor of p ≡ tagFor of q
 
 pub total-start : (of : Walk) (m : ℕ) (ps : List (List ℕ)) → Totalling of m ps 0 0
-total-start of m ps = record { below = omega arith; total-is = sym (keep-none (classOf m) (distinct (map keyOf ps))); agree = λ p q i j e h. absurd (omega arith) }
+total-start of m ps = record {
+  below = omega arith;
+  total-is = sym (keep-none (classOf m) (distinct (map keyOf ps)));
+  agree = λ p q i j e h. absurd (omega arith);
+}
 
 module _ {of : Walk} {m : ℕ} {ps : List (List ℕ)} {n class : ℕ} (t : Totalling of m ps n class) where
-  pub total-turn : class < m → (r : Verdict) {more : ℕ} → r ≡ Passes more → Found of (keep (inClass m class) ps) r → Totalling of m ps (n + more) (class + 1)
+  pub total-turn : class < m → (r : Verdict) {more : ℕ} → r ≡ Passes more → Found of (keep (inClass m class) ps) r
+      → Totalling of m ps (n + more) (class + 1)
   total-turn h r {more} x f = record {
     below = omega arith;
     total-is = rw (t .total-is, a .count-is ∙ class-distinct m class ps) (keep-next (classOf m) class (distinct (map keyOf ps)));
-    agree = λ p q i j e l. ⊎-elim (λ (b : ltb (classOf m p) class ≡ true). t .agree p q i j e (ltb-true (classOf m p) class b)) (λ (b : ltb (classOf m p) class ≡ false). last p q i j e (omega (arith, l, ltb-false (classOf m p) class b))) (either (ltb (classOf m p) class));
+    agree = λ p q i j e l. ⊎-elim
+        (λ (b : ltb (classOf m p) class ≡ true). t .agree p q i j e (ltb-true (classOf m p) class b))
+        (λ (b : ltb (classOf m p) class ≡ false). last p q i j e (omega (arith, l, ltb-false (classOf m p) class b)))
+        (either (ltb (classOf m p) class));
   }
     where
       a : Agreeing of (keep (inClass m class) ps) more
@@ -191,7 +206,8 @@ module _ {of : Walk} {m : ℕ} {ps : List (List ℕ)} {n class : ℕ} (t : Total
       last : (p q : List ℕ) → In p ps → In q ps → keyOf p ≡ keyOf q → classOf m p ≡ class → tagFor of p ≡ tagFor of q
       last p q i j e x =
           let y : classOf m q ≡ class = sym (class-key m q) ∙ ap (classOf m) (sym e) ∙ class-key m p ∙ x in
-          a .agree p q (keep-in (inClass m class) ps p i (eq-eqb (classOf m p) class x)) (keep-in (inClass m class) ps q j (eq-eqb (classOf m q) class y)) e
+          a .agree p q (keep-in (inClass m class) ps p i (eq-eqb (classOf m p) class x))
+          (keep-in (inClass m class) ps q j (eq-eqb (classOf m q) class y)) e
 
   -- there are no more of them than places
   pub total-few : n ≤ length ps
@@ -222,7 +238,8 @@ apart-all m class ps a = record {
   tags = a .tags;
 }
 
-pub found-all : (of : Walk) (m class : ℕ) (ps : List (List ℕ)) (r : Verdict) → OneOf (1 ∷ 2 ∷ []) (tagOf the-type r) → Found of (keep (inClass m class) ps) r → Found of ps r
+pub found-all : (of : Walk) (m class : ℕ) (ps : List (List ℕ)) (r : Verdict) → OneOf (1 ∷ 2 ∷ []) (tagOf the-type r)
+    → Found of (keep (inClass m class) ps) r → Found of ps r
 found-all of m class ps (Passes n) o f = absurd (miss (1 ∷ 2 ∷ []) 0 tt o)
 found-all of m class ps Fails o f = apart-all m class ps f
 found-all of m class ps Unknown o f = tt

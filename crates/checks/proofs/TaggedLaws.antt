@@ -62,7 +62,8 @@ tagged-start c room w ys h f e =
 
 -- ---- a key is met
 
-module _ {c : ℕ} {w ys : List ℕ} {room n number count : ℕ} (k : Key) (t : ℕ) (tagged : Tagged c w room n) (met : Met c (front c room w) ys room n k number count) (l : length ys ≡ wordsFor c room) where
+module _ {c : ℕ} {w ys : List ℕ} {room n number count : ℕ} (k : Key) (t : ℕ) (tagged : Tagged c w room n)
+    (met : Met c (front c room w) ys room n k number count) (l : length ys ≡ wordsFor c room) where
   abbrev old : List Key
   old = keys c (front c room w) room n
 

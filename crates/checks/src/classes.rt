@@ -5,7 +5,6 @@ use crate::faces;
 use crate::parts;
 use crate::tagged;
 use crate::tagged::Met;
-use numbering::keys;
 ghost use mathlib.Core.Path.{_≡_};
 ghost use mathlib.Core.List.{[]};
 ghost use Prim.Native.Nat.{_≤_, _<_};
@@ -48,7 +47,6 @@ fn read(of: Walk, hexes: &[u32], quads: &[u32], segments: &[u32], i: usize, corn
     ensures { λ _.
         ⌜ now (corners .exit) ≡ getD (walked of (length (now (corners .entry))) (now (hexes .entry)) (now (quads .entry)) (now (segments .entry))) i [] ⌝ }
 {
-    let k = corners.len();
     match of {
         Walk::Edges => {
             let part = parts::part_at(1, hexes, quads, segments, i);
@@ -59,6 +57,7 @@ fn read(of: Walk, hexes: &[u32], quads: &[u32], segments: &[u32], i: usize, corn
             memory::copy_u32(&part, corners);
         }
         Walk::Cells => {
+            let k = corners.len();
             let at = k * i;
             let end = at + k;
             memory::copy_u32(&hexes[at..end], corners);
@@ -66,7 +65,7 @@ fn read(of: Walk, hexes: &[u32], quads: &[u32], segments: &[u32], i: usize, corn
     }
 }
 
-// The class of some corners among so many classes.
+// The class of some corners among so many classes; a single one holds all.
 fn class_of(corners: &[u32], classes: usize) -> usize
     requires { ⌜ (length (now corners) ≤ 8) × (classes ≤ 1024) ⌝ }
     ensures { λ r. ⌜ r ≡ classOf classes (now (corners .entry)) ⌝ }
@@ -115,8 +114,7 @@ fn meet_in_class(
         return Met::Agrees(n);
     }
     let tag = tag_of(of, corners);
-    keys::sort(corners);
-    tagged::meet(w, room, n, corners, tag)
+    tagged::meet_corners(w, room, n, corners, tag)
 }
 
 // Goes over one class.
@@ -183,7 +181,8 @@ fn sweep_all(
     Verdict::Passes(n)
 }
 
-// Goes over all of them, in `fewest` classes, twice as many and so on up to 1024, until each class fits the memory.
+// Goes over all of them, in `fewest` classes or more, up to 1024, until each class fits the memory. A class that does not fit is given up
+// before its end: that costs less than one class too many.
 pub fn find(
     w: &mut [u32],
     of: Walk,
@@ -207,7 +206,7 @@ pub fn find(
         let Verdict::Unknown = found else {
             return found;
         };
-        classes *= 2;
+        classes += 1 + classes / 8;
     }
     Verdict::Unknown
 }

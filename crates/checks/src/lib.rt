@@ -26,7 +26,7 @@ ghost use Rattle.checks.specs.Walk.{metIn};
 pub mod by_classes;
 // The cells by themselves: check 5.
 pub mod cells;
-// The classes.
+// Edges, faces or cells in classes, with a table for one class at a time.
 pub mod classes;
 // The corner across a face's least corner.
 pub mod faces;
@@ -38,7 +38,7 @@ pub mod pairwise;
 pub mod parts;
 // The tables: checks 1 to 4.
 pub mod tables;
-// Tables of keys with tags.
+// A table of keys with tags.
 pub mod tagged;
 
 // Whether two cells of a table have one corner set; the parts are the cells themselves.

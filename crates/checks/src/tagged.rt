@@ -1,7 +1,9 @@
 // A table of keys in lent memory with a tag for each key: 3 numbers more than a key has, and one more for all.
+use numbering::keys;
 use numbering::table;
 ghost use Prim.Native.Nat.{_+_, _^_, _≤_, _<_};
 ghost use lib.ListN.{length};
+ghost use Rattle.rules.specs.Lists.{keyOf};
 ghost use Rattle.numbering.specs.Table.{wordsFor};
 ghost use Rattle.checks.specs.Tagged.{Tagged, TagMet};
 
@@ -58,4 +60,19 @@ pub fn meet(w: &mut [u32], room: usize, n: usize, key: &[u32], tag: u32) -> Met
         return Met::Agrees(count);
     }
     Met::Differs
+}
+
+// Meets the key of some corners, which are sorted in place. Faces are most of what is met: where the compiler knows their length, no loop
+// over a key is left.
+pub fn meet_corners(w: &mut [u32], room: usize, n: usize, corners: &mut [u32], tag: u32) -> Met
+    requires { ⌜ Tagged (length (now corners)) (now w) room n ⌝ }
+    ensures { λ r.
+        ⌜ TagMet (length (now (corners .entry))) (now (w .entry)) (now (w .exit)) room n (keyOf (now (corners .entry))) tag r ⌝ }
+{
+    if corners.len() == 4 {
+        keys::sort(&mut corners[..4]);
+        return meet(w, room, n, &corners[..4], tag);
+    }
+    keys::sort(corners);
+    meet(w, room, n, corners, tag)
 }

@@ -1,4 +1,4 @@
--- `checks::face_count` meets its contract: by the table, or part by part. Assumes nothing.
+-- `checks::face_count` meets its contract: by the table, or class by class. Assumes nothing.
 use mathlib.Core.Path.{ap, _∙_}
 use mathlib.Core.List.{List}
 use borrow.Author.Needs.{needs}

@@ -1,6 +1,6 @@
 -- `checks::classes::find` meets its contract. Assumes nothing.
 use mathlib.Core.Path.{_≡_, refl, _∙_}
-use Prim.Native.Nat.{_-_, _<_}
+use Prim.Native.Nat.{_-_, _≤_, _<_}
 use native.Mathlib.Omega.{arith}
 use borrow.Author.Needs.{needs}
 use lib.ListN.{length}
@@ -37,6 +37,9 @@ loop-again c =
     let l = loop-of m in
     (m .sweep-all .kept .0 ∙ l .loop .inv .0, m .sweep-all .kept .1 .1 .1 .1 .1 .0 ∙ l .loop .inv .1, omega (arith, l .loop .inv .2))
 
+few : (c : tie.After-enum-told Inv-loop μ-loop) → loop-of (c .before .before .before .before .before .before) .loop .classes ≤ 1024
+few c = let m = c .before .before .before .before .before .before in m .before .before .before .loop-test .taken
+
 pub find-spec : {M : Type 1} → statement M
 find-spec =
     tie.close
@@ -50,8 +53,9 @@ find-spec =
     (λ c. let m = c .before .before .before .before .before in m .sweep-all .kept .0 ∙ loop-of m .loop .inv .0)
     (λ c. let m = c .before .before .before .before .before in m .sweep-all .kept .1 .1 .1 .1 .1 .0 ∙ loop-of m .loop .inv .1)
     returns-2
-    (λ c. omega (arith, c .before .before .before .before .before .before .before .before .before .loop-test .taken))
-    (λ c. omega (arith, c .before .before .before .before .before .before .before .before .before .loop-test .taken, c .before .before .before .before .before .before .before .before .before .before .loop .inv .2))
+    (λ c. omega (arith, few c))
+    (λ c. omega (arith, few c))
+    (λ c. omega (arith, few c))
     loop-again
     (λ c. c .before .loop .inv .0)
     (λ c. c .before .loop .inv .1)

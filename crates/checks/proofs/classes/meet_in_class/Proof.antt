@@ -17,20 +17,13 @@ returns c =
     let o = c .before in
     record { inside = λ e. absurd (c .if1 .taken (o .class-of .ensures ∙ eqb-true _ _ e)); outside = λ e. (refl, refl) }
 
-meet-requires : tie.Need-meet-requires
-meet-requires c κs =
-    let o = c .before .before .before .before in
-    let s = o .before .before .before .before .before .before .before .before .before in
-    rw (o .sort .kept .0) (s .pre .1 .1)
-
 returns-2 : tie.Need-returns-2
 returns-2 c =
-    let m = c .before .before in
-    let o = m .before .before .before .before .before in
-    let t = o .before .before in
+    let m = c .before .before .before .before in
+    let t = m .before .before .before in
     let i = t .before .before in
     record {
-      inside = λ e. rw (o .sort .kept .0, o .sort .ensures, t .tag-of .ensures) at (m .meet .ensures);
+      inside = λ e. rw (t .tag-of .ensures) at (m .meet-corners .ensures);
       outside = λ e. absurd (eqb-false _ _ e (sym (i .before .class-of .ensures) ∙ i .if1 .left));
     }
 
@@ -42,8 +35,7 @@ meet-in-class-spec =
     (λ c. search needs)
     returns
     (λ c κs. c .before .before .before .before .before .before .pre .0)
-    (λ c κs. search needs)
-    meet-requires
+    (λ c κs. c .before .before .before .before .before .before .before .before .before .pre .1 .1)
     (λ c. search needs)
     (λ c. search needs)
     returns-2)

@@ -38,14 +38,18 @@ returns c =
     let p = c .before .before .before .before .before in
     let e = p .before in
     let a = e .before .before .before .before .before .before .args in
-    rw (e .enum-told .given .1) (c .before .before .copy-u32 .ensures ∙ whole (a .corners .now) (take 2 (p .part-at .result)) (pair p ∙ sym (two e)) ∙ p .part-at .ensures)
+    rw (e .enum-told .given .1)
+    (c .before .before .copy-u32 .ensures ∙ whole (a .corners .now) (take 2 (p .part-at .result)) (pair p ∙ sym (two e)) ∙ p .part-at .ensures)
 
 -- ---- faces
 
 four : (c : tie.At-match-keys2) → length (c .before .before .before .before .before .args .corners .now) ≡ 4
 four c = let s = c .before .before .before .before .before in faces-size (s .args .of) (c .match .keys2) (length (s .args .corners .now)) (s .pre .0)
 
-all : (c : tie.At-match-keys2) → let a = c .before .before .before .before .before .args in walked (a .of) (length (a .corners .now)) (a .hexes .now) (a .quads .now) (a .segments .now) ≡ metIn 2 (a .hexes .now) (a .quads .now) (a .segments .now)
+all : (c : tie.At-match-keys2) →
+    let a = c .before .before .before .before .before .args in
+    walked (a .of) (length (a .corners .now)) (a .hexes .now) (a .quads .now) (a .segments .now)
+    ≡ metIn 2 (a .hexes .now) (a .quads .now) (a .segments .now)
 all c =
     let a = c .before .before .before .before .before .args in
     faces-walked (a .of) (c .match .keys2) (length (a .corners .now)) (a .hexes .now) (a .quads .now) (a .segments .now)
@@ -67,20 +71,28 @@ returns-2 c =
 
 -- ---- cells
 
-listed : (c : tie.After-enum-told2) → let a = c .before .before .before .before .before .before .args in a .i < length (cut (length (a .corners .now)) (a .hexes .now))
+listed : (c : tie.After-enum-told2) →
+    let a = c .before .before .before .before .before .before .args in
+    a .i < length (cut (length (a .corners .now)) (a .hexes .now))
 listed c = rw (c .enum-told2 .given .1) at (c .before .before .before .before .before .before .pre .1)
 
-within : (c : tie.After-enum-told2) → let a = c .before .before .before .before .before .before .args in length (a .corners .now) * a .i + length (a .corners .now) ≤ length (a .hexes .now)
-within c = let a = c .before .before .before .before .before .before .args in entry-within (length (a .corners .now)) (a .i) (a .hexes .now) (listed c)
+within : (c : tie.After-enum-told2) →
+    let a = c .before .before .before .before .before .before .args in
+    length (a .corners .now) * a .i + length (a .corners .now) ≤ length (a .hexes .now)
+within c =
+    let a = c .before .before .before .before .before .before .args in
+    entry-within (length (a .corners .now)) (a .i) (a .hexes .now) (listed c)
 
 returns-3 : tie.Need-returns-3
 returns-3 c =
     let e = c .before .before .before .before .before in
     let s = e .before .before .before .before .before .before in
     let k = length (s .args .corners .now) in
-    let cell = entry-part k (s .args .i) (s .args .hexes .now) (listed e) in
-    let size = length-entry k (s .args .hexes .now) (getD (cut k (s .args .hexes .now)) (s .args .i) []) (getD-in (cut k (s .args .hexes .now)) (s .args .i) [] (listed e)) in
-    rw (e .enum-told2 .given .1) (rw cell at (c .before .before .copy-u323 .ensures) ∙ whole (s .args .corners .now) (getD (cut k (s .args .hexes .now)) (s .args .i) []) size)
+    let cells = s .args .hexes .now in
+    let cell = getD (cut k cells) (s .args .i) [] in
+    let part = entry-part k (s .args .i) cells (listed e) in
+    let size = length-entry k cells cell (getD-in (cut k cells) (s .args .i) [] (listed e)) in
+    rw (e .enum-told2 .given .1) (rw part at (c .before .before .copy-u323 .ensures) ∙ whole (s .args .corners .now) cell size)
 
 pub read-spec : {M : Type 1} → statement M
 read-spec =

@@ -13,7 +13,8 @@ use Rattle.checks.proofs.classes.sweep.Tie as tie
 
 abbrev Inv-loop : tie.InvT-loop
 Inv-loop w₀ of hexes quads segments key₀ class classes count room n₀ i₀ w key n i =
-    (length w ≡ length w₀) × (length key ≡ length key₀) × Sweeping of classes class (walked of (length key₀) hexes quads segments) (length key₀) w room n i
+    (length w ≡ length w₀) × (length key ≡ length key₀) × Sweeping of classes class
+    (walked of (length key₀) hexes quads segments) (length key₀) w room n i
 
 abbrev μ-loop : tie.MeasureT-loop
 μ-loop w₀ of hexes quads segments key₀ class classes count room n₀ i₀ w key n i = count - i
@@ -84,6 +85,12 @@ loop-again c =
 same-key : (m : tie.After-meet-in-class Inv-loop μ-loop) → length (m .meet-in-class .last .1 .1 .1 .1 .0) ≡ length (start (loop-of m) .args .key .now)
 same-key m = m .meet-in-class .kept .1 .1 .1 .1 .0 ∙ read-of m .read .kept .1 .1 .1 .1 .1 .0 ∙ loop-of m .loop .inv .1
 
+-- there are more to look at
+more : (c : tie.After-known-told Inv-loop μ-loop) →
+    let l = loop-of (c .before .before .before .before .before .before .before) in
+    l .loop .i < l .before .before .before .before .before .count-of .result
+more c = read-of (c .before .before .before .before .before .before .before) .before .before .loop-test .taken
+
 pub sweep-spec : {M : Type 1} → statement M
 sweep-spec =
     tie.close
@@ -104,8 +111,8 @@ sweep-spec =
     (λ c. same-w (c .before .before .before .before .before .before))
     (λ c. same-key (c .before .before .before .before .before .before))
     (λ c. tt)
-    (λ c. omega (arith, c .before .before .before .before .before .before .before .before .before .before .before .before .before .before .loop-test .taken))
-    (λ c. omega (arith, c .before .before .before .before .before .before .before .before .before .before .before .before .before .before .loop-test .taken))
+    (λ c. omega (arith, more c))
+    (λ c. omega (arith, more c))
     loop-again
     (λ c. same (c .before))
     (λ c. c .before .loop .inv .1)

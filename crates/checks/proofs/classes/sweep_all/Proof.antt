@@ -40,7 +40,8 @@ returns : tie.Need-returns Inv-loop μ-loop
 returns c =
     let m = c .before .before .before .before .before in
     let l = loop-of m in
-    found-all (start l .args .of) (start l .args .classes) (l .loop .class) (ps (start l)) (m .sweep .result) (c .match .keys2) (rw (l .loop .inv .1) at (m .sweep .ensures))
+    found-all (start l .args .of) (start l .args .classes) (l .loop .class) (ps (start l)) (m .sweep .result) (c .match .keys2)
+    (rw (l .loop .inv .1) at (m .sweep .ensures))
 
 -- one class more
 turn : (c : tie.After-known-told Inv-loop μ-loop) →
@@ -49,7 +50,8 @@ turn : (c : tie.After-known-told Inv-loop μ-loop) →
 turn c =
     let m = c .before .before .before .before .before .before .before in
     let l = loop-of m in
-    total-turn (l .loop .inv .2) (m .before .before .before .loop-test .taken) (m .sweep .result) (c .before .found .given .1) (rw (l .loop .inv .1) at (m .sweep .ensures))
+    total-turn (l .loop .inv .2) (m .before .before .before .loop-test .taken) (m .sweep .result) (c .before .found .given .1)
+    (rw (l .loop .inv .1) at (m .sweep .ensures))
 
 fits : (s : tie.Start Inv-loop μ-loop) → length (ps s) < 2 ^ 64
 fits s =

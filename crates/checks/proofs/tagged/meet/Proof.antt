@@ -23,10 +23,13 @@ start c = c .before .before .before .before .before .before .before .before .bef
 met : (c : tie.After-known-told) →
     let a = start c .args in
     let k = a .key .now in
-    Met (length k) (front (length k) (a .room) (a .w .now)) (c .before .before .before .before .before .meet .last .0) (a .room) (a .n) k (c .before .met .given .0 .0) (c .before .met .given .0 .1 .0)
+    Met (length k) (front (length k) (a .room) (a .w .now)) (c .before .before .before .before .before .meet .last .0) (a .room) (a .n) k
+    (c .before .met .given .0 .0) (c .before .met .given .0 .1 .0)
 met c = rw (c .before .met .given .1) at (c .before .before .before .before .before .meet .ensures)
 
-kept : (c : tie.After-known-told) → let a = start c .args in length (c .before .before .before .before .before .meet .last .0) ≡ wordsFor (length (a .key .now)) (a .room)
+kept : (c : tie.After-known-told) →
+    let a = start c .args in
+    length (c .before .before .before .before .before .meet .last .0) ≡ wordsFor (length (a .key .now)) (a .room)
 kept c = c .before .before .before .before .before .meet .kept .0 ∙ size (start c)
 
 -- where the tag stands

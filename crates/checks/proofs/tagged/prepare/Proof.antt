@@ -22,7 +22,8 @@ returns : tie.Need-returns
 returns c =
     let b = c .before .before in
     let r = b .before .before in
-    tagged-start (r .before .before .args .c) (r .room-in .result) (r .before .before .args .w .now) (b .prepare .last .0) (r .room-in .ensures .0) (r .room-in .ensures .1) (b .prepare .ensures)
+    tagged-start (r .before .before .args .c) (r .room-in .result) (r .before .before .args .w .now) (b .prepare .last .0)
+    (r .room-in .ensures .0) (r .room-in .ensures .1) (b .prepare .ensures)
 
 pub prepare-spec : {M : Type 1} → statement M
 prepare-spec =
