@@ -244,7 +244,7 @@ static void run_rounds(const struct tables *mesh, uint32_t rounds, uint64_t edge
     }
 }
 
-static struct sizes finished_sizes(const struct tables *mesh, uint32_t rounds, uint64_t edges, uint64_t faces)
+struct sizes plain_finished_sizes(const struct tables *mesh, uint32_t rounds, uint64_t edges, uint64_t faces)
 {
     struct sizes sizes = sizes_of(mesh);
     for (uint32_t round = 0; round < rounds; round++) {
@@ -272,7 +272,7 @@ uint32_t plain_refine(const struct tables *mesh, uint32_t rounds, struct lent *l
         return refusal != 0 ? refusal : 9;
     if (rounds > 0)
         edges = plain_count_edges(mesh, lent->numbers32);
-    *finished = finished_sizes(mesh, rounds, edges, faces);
+    *finished = plain_finished_sizes(mesh, rounds, edges, faces);
     if (out_of_range(finished) || is_short(lent, finished))
         return out_of_range(finished) ? 10 : 11;
     if (rounds == 0)

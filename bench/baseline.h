@@ -78,6 +78,9 @@ uint32_t plain_check_mesh(const struct tables *mesh, struct scratch scratch, uin
 /* How many edges a sound mesh has. */
 uint64_t plain_count_edges(const struct tables *mesh, struct scratch scratch);
 
+/* The sizes after so many rounds, by the recurrence of document 01, "One round". */
+struct sizes plain_finished_sizes(const struct tables *mesh, uint32_t rounds, uint64_t edges, uint64_t faces);
+
 /* The memory that refining is lent. */
 struct lent {
     struct tables output, working;

@@ -73,7 +73,7 @@ static void note(bool agreed, const char *what, const char *name)
     }
 }
 
-/* The finished sizes by the recurrence of document 01, "One round". */
+/* The finished sizes, from the edges and faces that the baseline counts. */
 static struct sizes finished_sizes(const struct tables *mesh, uint32_t rounds)
 {
     uint64_t faces;
@@ -81,18 +81,9 @@ static struct sizes finished_sizes(const struct tables *mesh, uint32_t rounds)
     struct scratch scratch = { malloc(len * sizeof(uint32_t)), len };
     uint32_t refusal = plain_check_mesh(mesh, scratch, &faces);
     uint64_t edges = plain_count_edges(mesh, scratch);
-    struct sizes s = sizes_of(mesh);
     free(scratch.numbers);
     note(refusal == 0, "a mesh of the bench is refused", "");
-    for (uint32_t round = 0; round < rounds; round++) {
-        uint64_t hexes = s.cells[HEX];
-        s.vertices += edges + faces + hexes;
-        edges = 2 * edges + 4 * faces + 6 * hexes;
-        faces = 4 * faces + 12 * hexes;
-        for (int d = SEGMENT; d <= HEX; d++)
-            s.cells[d] <<= d;
-    }
-    return s;
+    return plain_finished_sizes(mesh, rounds, edges, faces);
 }
 
 static void bench_refining(const char *name, const struct tables *mesh, uint32_t rounds)

@@ -20,7 +20,10 @@ fn main() {
         ("125,000 segments from a vertex", shapes::star_of_segments(125_000), 1),
         ("31,250 hexes on a face", shapes::blocks_round_a_face(31_250), 1),
     ];
-    println!("{:<34} {:>6} {:>10} {:>10} {:>6}", "best of three whole calls", "rounds", "oracle ms", "kernel ms", "ratio");
+    println!(
+        "{:<34} {:>6} {:>10} {:>10} {:>6}",
+        "best of three whole calls", "rounds", "oracle ms", "kernel ms", "ratio"
+    );
     for (name, mesh, rounds) in rows {
         let finished = check_refining(&mesh, rounds).expect("within the limits");
         let best = |kernel: &dyn Kernel| {
