@@ -18,7 +18,7 @@ use Rattle.lists.proofs.Distinct.{in-distinct, distinct-in, once-distinct}
 use Rattle.checks.specs.declared.classes.Walk.{Walk}
 use Rattle.checks.specs.declared.classes.Walk.the-variants.{Edges, Faces, Rings, Cells}
 use Rattle.checks.specs.Walk.{metIn}
-use Rattle.checks.specs.Classes.{walked, Size, total, classOf, inClass}
+use Rattle.checks.specs.Classes.{walked, Size, squared, total, classOf, inClass}
 use Rattle.checks.proofs.WalkLaws.{met-fits}
 use Rattle.checks.proofs.classes.Walk.{the-type}
 
@@ -61,19 +61,19 @@ walked-fits Cells k hs qs ss a b c = omega (arith, length-cut k hs, div-le-self 
 
 -- ---- the class is that of the corner set
 
-total-insert : (x : ℕ) (ys : List ℕ) → total (insert x ys) ≡ x + total ys
+total-insert : (x : ℕ) (ys : List ℕ) → total (insert x ys) ≡ squared x + total ys
 unfolding total insert
 total-insert x [] = refl
 total-insert x (y ∷ ys) = go (leb x y) (total-insert x ys)
   where
-    go : (b : Bool) → total (insert x ys) ≡ x + total ys → total (cond b (x ∷ y ∷ ys) (y ∷ insert x ys)) ≡ x + (y + total ys)
+    go : (b : Bool) → total (insert x ys) ≡ squared x + total ys → total (cond b (x ∷ y ∷ ys) (y ∷ insert x ys)) ≡ squared x + (squared y + total ys)
     go true e = refl
     go false e = omega arith
 
 total-key : (p : List ℕ) → total (keyOf p) ≡ total p
 unfolding total keyOf
 total-key [] = refl
-total-key (x ∷ xs) = total-insert x (keyOf xs) ∙ ap (λ (n : ℕ). x + n) (total-key xs)
+total-key (x ∷ xs) = total-insert x (keyOf xs) ∙ ap (λ (n : ℕ). squared x + n) (total-key xs)
 
 pub class-key : (m : ℕ) (p : List ℕ) → classOf m (keyOf p) ≡ classOf m p
 unfolding classOf

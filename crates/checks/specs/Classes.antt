@@ -42,11 +42,15 @@ tagFor Cells p = 0
 
 -- ---- the classes
 
+abbrev pub squared : ℕ → ℕ
+squared x = x * x % 2 ^ 32
+
 unfoldable pub total : List ℕ → ℕ
 total [] = 0
-total (x ∷ xs) = x + total xs
+total (x ∷ xs) = squared x + total xs
 
--- The class among m: the corners' sum, which does not depend on their order, spread as the numbering spreads keys over slots.
+-- The class among m: the sum of the corners' squares, which does not depend on their order, spread as the numbering spreads keys over slots.
+-- Plain sums would not do: in a mesh with mirrored numbers all pairs of a vertex and its image have one.
 unfoldable pub classOf : ℕ → List ℕ → ℕ
 classOf m p = total p % 2 ^ 32 * 1640531527 % 2 ^ 32 * m / 2 ^ 32
 

@@ -1,5 +1,5 @@
 // Check 7 and the counts of distinct corner sets with whatever memory is lent. The edges, faces or cells are divided into classes by the
-// sum of their corners: those with one corner set are in one class. Each class is looked at by itself, in a table made anew, and there are
+// squares of their corners: those with one corner set are in one class. Each class is looked at by itself, in a table made anew, and there are
 // as many classes as it takes for the table of one to fit the memory.
 use crate::faces;
 use crate::parts;
@@ -7,11 +7,11 @@ use crate::tagged;
 use crate::tagged::Met;
 ghost use mathlib.Core.Path.{_≡_};
 ghost use mathlib.Core.List.{[]};
-ghost use Prim.Native.Nat.{_≤_, _<_};
+ghost use Prim.Native.Nat.{_^_, _≤_, _<_};
 ghost use lib.ListN.{length, getD};
 ghost use Rattle.rules.specs.Lists.{keep};
 ghost use Rattle.checks.specs.Tagged.{Tagged};
-ghost use Rattle.checks.specs.Classes.{walked, Size, tagFor, classOf, inClass, ClassMet, Found};
+ghost use Rattle.checks.specs.Classes.{walked, Size, tagFor, squared, classOf, inClass, ClassMet, Found};
 
 // What is walked: the edges of three tables; their faces; their faces, told apart by how they go round; the cells of the first table.
 pub enum Walk {
@@ -65,6 +65,13 @@ fn read(of: Walk, hexes: &[u32], quads: &[u32], segments: &[u32], i: usize, corn
     }
 }
 
+fn square(x: u32) -> usize
+    ensures { λ r. ⌜ (r ≡ squared x) × (r < 2 ^ 32) ⌝ }
+{
+    let n = x as usize;
+    n * n % 4294967296
+}
+
 // The class of some corners among so many classes; a single one holds all.
 fn class_of(corners: &[u32], classes: usize) -> usize
     requires { ⌜ (length (now corners) ≤ 8) × (classes ≤ 1024) ⌝ }
@@ -76,7 +83,7 @@ fn class_of(corners: &[u32], classes: usize) -> usize
     let mut sum = 0;
     let mut i = 0;
     while i < corners.len() {
-        sum += corners[i] as usize;
+        sum += square(corners[i]);
         i += 1;
     }
     sum % 4294967296 * 1640531527 % 4294967296 * classes / 4294967296
