@@ -1,10 +1,10 @@
 // A table of keys in lent memory with a tag for each key: 3 numbers more than a key has, and one more for all.
+use numbering::count;
 use numbering::keys;
 use numbering::table;
-ghost use Prim.Native.Nat.{_+_, _^_, _≤_, _<_};
+ghost use Prim.Native.Nat.{_≤_, _<_};
 ghost use lib.ListN.{length};
 ghost use Rattle.rules.specs.Lists.{keyOf};
-ghost use Rattle.numbering.specs.Table.{wordsFor};
 ghost use Rattle.checks.specs.Tagged.{Tagged, TagMet};
 
 // What meeting a key with a tag finds: a new key, or one that has this tag, and the count of keys; or another tag; or no room.
@@ -14,28 +14,12 @@ pub enum Met {
     Full,
 }
 
-fn least(a: usize, b: usize) -> usize
-    ensures { λ r. ⌜ (r ≤ a) × (r ≤ b) ⌝ }
-{
-    if a < b { a } else { b }
-}
-
-// For how many keys of c numbers so many words have room, of which there is at least one; not for more than `most`: fewer heads stay in
-// the cache.
-fn room_in(words: usize, c: usize, most: usize) -> usize
-    requires { ⌜ (0 < words) × (c ≤ 8) ⌝ }
-    ensures { λ r. ⌜ (wordsFor c r + r ≤ words) × (r + 1 < 2 ^ 32) ⌝ }
-{
-    let fits = (words - 1) / (c + 3);
-    least(least(most, fits), 4294967294)
-}
-
 // Makes a table of no key with room for `most` keys of c numbers, or for as many as the memory holds; the answer is its room.
 pub fn prepare(w: &mut [u32], c: usize, most: usize) -> usize
     requires { ⌜ (0 < length (now w)) × (c ≤ 8) ⌝ }
     ensures { λ r. ⌜ Tagged c (now (w .exit)) r 0 ⌝ }
 {
-    let room = room_in(w.len(), c, most);
+    let room = count::room_in(w.len(), c + 3, most);
     let size = room + 1 + (c + 1) * room;
     table::prepare(&mut w[..size], room);
     room

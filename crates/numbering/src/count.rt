@@ -2,9 +2,9 @@
 use crate::parts;
 use crate::table;
 ghost use mathlib.Core.Path.{_≡_};
-ghost use Prim.Native.Nat.{_+_, _^_, _≤_, _<_};
+ghost use Prim.Native.Nat.{_+_, _*_, _^_, _≤_, _<_};
 ghost use lib.ListN.{length};
-ghost use Rattle.numbering.specs.Table.{wordsFor, Table};
+ghost use Rattle.numbering.specs.Table.{Table};
 ghost use Rattle.numbering.specs.Parts.{partCorners, tableKeys};
 ghost use Rattle.numbering.specs.Count.{CountOf, edgeKeys, faceKeys};
 
@@ -18,13 +18,14 @@ fn least(x: usize, y: usize) -> usize
     y
 }
 
-// For how many keys of c numbers so many words have room, of which there is at least one; at most `most`, and at most what a table holds.
-fn room_in(words: usize, c: usize, most: usize) -> usize
-    requires { ⌜ (0 < words) × (c ≤ 8) ⌝ }
-    ensures { λ r. ⌜ (wordsFor c r ≤ words) × (r + 1 < 2 ^ 32) ⌝ }
+// For how many keys so many words have room, of which there is at least one, where a key takes `size` of them and all together one more; at
+// most `most`, and at most what a table holds.
+pub fn room_in(words: usize, size: usize, most: usize) -> usize
+    requires { ⌜ (0 < words) × (0 < size) ⌝ }
+    ensures { λ r. ⌜ (size * r + 1 ≤ words) × (r + 1 < 2 ^ 32) ⌝ }
 {
     let bound = least(most, 4294967294);
-    least((words - 1) / (c + 2), bound)
+    least((words - 1) / size, bound)
 }
 
 // How many parts the cells of a flat table have, each counted as often as it is met.
@@ -40,7 +41,7 @@ fn prepare_for(w: &mut [u32], c: usize, most: usize) -> usize
     requires { ⌜ (0 < length (now w)) × (c ≤ 8) ⌝ }
     ensures { λ r. ⌜ Table c (now (w .exit)) r 0 ⌝ }
 {
-    let room = room_in(w.len(), c, most);
+    let room = room_in(w.len(), c + 2, most);
     table::prepare(w, room);
     room
 }

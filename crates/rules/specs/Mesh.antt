@@ -24,7 +24,7 @@ mesh xs hs qs ss ps = record { vertices = xs; hexes = hs; quads = qs; segments =
 pub data Kind : Type 0 where
   hex quad segment point : Kind
 
--- "Cells may meet in any number at an edge or face [..]. A quad or segment need not lie on a hex." In the order in which a mesh is walked: "walking hexes, then quads, then segments"; a point has neither edges nor faces
+-- in the order in which a mesh is walked: "walking hexes, then quads, then segments"; a point has neither edges nor faces
 abbrev pub kinds : List Kind
 kinds = hex ∷ quad ∷ segment ∷ point ∷ []
 

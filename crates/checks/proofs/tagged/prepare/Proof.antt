@@ -23,12 +23,13 @@ returns c =
     let b = c .before .before in
     let r = b .before .before in
     tagged-start (r .before .before .args .c) (r .room-in .result) (r .before .before .args .w .now) (b .prepare .last .0)
-    (r .room-in .ensures .0) (r .room-in .ensures .1) (b .prepare .ensures)
+    (omega (arith, r .room-in .ensures .0)) (r .room-in .ensures .1) (b .prepare .ensures)
 
 pub prepare-spec : {M : Type 1} → statement M
 prepare-spec =
     tie.close
     (tie.spec
+    (λ c. search needs)
     (λ c κs. search needs)
     (λ c. search needs)
     (λ c. search needs)
