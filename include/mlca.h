@@ -104,8 +104,8 @@ mlca_millimetres_answer mlca_millimetres(int32_t x, int32_t y, int32_t z);
        V + E + F + H vertices, 2 E + 4 F + 6 H edges, 4 F + 12 H faces, 8 H hexes, 4 Q quads, 2 S segments, P points.
    At first E is at most 12 H + 4 Q + S and F at most 6 H + Q, fewer where cells share edges and faces. Memory for the
    counts that follow from these two bounds is always enough, and so is memory for MLCA_MOST_VERTICES and
-   MLCA_MOST_CELLS where they are less. Lending too much harms nothing; spare numbers at the end of a lent table are no
-   reason for a refusal. */
+   MLCA_MOST_CELLS where they are less. Lending too much costs only the time to clear the working memory; spare numbers
+   at the end of a lent table are no reason for a refusal. */
 
 /* Refines a mesh by 0 to 8 rounds; 0 copies it.
    Answer: the counts of the finished mesh; or a refusal and zeros.
@@ -118,8 +118,9 @@ mlca_millimetres_answer mlca_millimetres(int32_t x, int32_t y, int32_t z);
        and in the working tables; 8 numbers32 and 3 numbers64 a vertex. Less of any of them is refused with 11, with 0
        rounds too.
    Time: the checks are near-linear where numbers32 has also 1 + max(V, 48 H + 16 Q + 4 S, 3 P) places for the mesh
-       before the rounds, which 8 for each finished vertex nearly always are from one round on. With fewer they may
-       compare each cell with each other, and give the same answer. */
+       before the rounds, which 8 for each finished vertex nearly always are from one round on. With k times fewer they
+       go over the edges, faces or cells about k times; with less than about a 1000th, as where very many cells stand on
+       very few vertices, they compare each with each other, which may take long. The answer is the same. */
 mlca_counts_answer mlca_refine_tables(
     const int32_t *vertices, size_t vertices_len,
     const uint32_t *hexes, size_t hexes_len,
@@ -174,7 +175,8 @@ mlca_count_answer mlca_write_tables(
    Checks: 1 to 8.
    numbers: may hold anything before; all zero after, refused or not.
    Lend: any length gives the same answer, 0 included. The call is near-linear with
-       max(2 V, 1 + 42 H + 7 Q, 1 + 4 S, 1 + 3 P) numbers; with fewer it may compare each cell with each other. */
+       max(2 V, 1 + 42 H + 7 Q, 1 + 4 S, 1 + 3 P) numbers. With fewer than 2 V each vertex is looked for in all tables;
+       for the checks see mlca_refine_tables. */
 mlca_count_answer mlca_irregular_count_tables(
     const int32_t *vertices, size_t vertices_len,
     const uint32_t *hexes, size_t hexes_len,

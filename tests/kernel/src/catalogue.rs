@@ -63,8 +63,8 @@ pub fn page() -> String {
     let mut text = String::from(concat!(
         "# Sample meshes\n\n",
         "Stored meshes (document 01, \"Stored form\", form number 1), made by `make_samples` in `tests/kernel`.\n",
-        "Coordinates are in units of 1/1024 mm. The listing program takes one byte with the rounds and then a mesh:\n",
-        "`printf '\\001' | cat - p1.mlca | listing`.\n\n",
+        "Coordinates are in units of 1/1024 mm. The listing program, which `rt check listing` builds, takes one byte with the\n",
+        "rounds and then a mesh. In the root: `printf '\\001' | cat - examples/meshes/p1.mlca | target/bin/listing`.\n\n",
         "| File | Bytes | Vertices | Hexes | Quads | Segments | Points | What it is |\n",
         "|---|---|---|---|---|---|---|---|\n",
     ));
