@@ -35,7 +35,7 @@ enum mlca_refusal {
     MLCA_TOO_MANY_ROUNDS = 9,         /* more than 8 rounds (too many rounds) */
     MLCA_RESULT_TOO_LARGE = 10,       /* the finished mesh would pass the ranges of 2 (too large) */
     MLCA_SHORT_BUFFER = 11,           /* a lent buffer is too short (short buffer) */
-    MLCA_COORDINATE_STRAYED = 12,     /* a round left a coordinate out of range (strayed): proved never to arise */
+    MLCA_COORDINATE_LEFT_RANGE = 12,  /* a round left a coordinate out of range (strayed): proved never to arise */
     MLCA_WRONG_FILE_LENGTH = 13,      /* under 13 bytes, or not the length that the header calls for (wrong length) */
     MLCA_UNKNOWN_FORM = 14,           /* the form number is not 1 (unknown form) */
     MLCA_WRONG_INDEX_WIDTH = 15,      /* the index width is not that of the vertex count (wrong width) */

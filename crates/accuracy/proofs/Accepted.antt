@@ -1,4 +1,4 @@
--- A mesh that passes checks 1 to 8: its rounds have the third property, never stray, and pass the checks again.
+-- A mesh that passes checks 1 to 8: its rounds have the third property, never leave the range, and pass the checks again.
 use mathlib.Core.Path.{_≡_, refl}
 use mathlib.Core.Bool.{false}
 use Prim.Native.Nat.{ℕ, zero, suc, _%_}
@@ -6,7 +6,7 @@ use borrow.Author.Tests.{eqb-true, not-false}
 use lib.ListN.{length}
 use Rattle.rules.specs.Mesh.{Mesh, topology}
 use Rattle.rules.specs.Averaging.{refined}
-use Rattle.rules.specs.Refusals.{partialEntry, coordinateOutOfRange, tooLarge, strays}
+use Rattle.rules.specs.Refusals.{partialEntry, coordinateOutOfRange, tooLarge, leavesRange}
 use Rattle.lists.proofs.Tests.{or-neither, neither-or}
 use Rattle.soundness.specs.Accepted.{Accepted}
 use Rattle.soundness.proofs.Rounds.{refined-accepted}
@@ -27,10 +27,10 @@ module _ (m : Mesh) (ok : Accepted m) where
       all-in-range (refined k m) .1 (refined-range m (ok .sound) (entire-vertices m (ok .entire)) (all-in-range m .0 (ok .near)) k)
 
   -- refusal 12 is never given
-  pub never-strays : (k : ℕ) → strays k m ≡ false
-  unfolding strays
-  never-strays zero = refl
-  never-strays (suc k) = neither-or (strays k m) (coordinateOutOfRange (refined (suc k) m)) (never-strays k) (refined-near (suc k))
+  pub never-leaves-range : (k : ℕ) → leavesRange k m ≡ false
+  unfolding leavesRange
+  never-leaves-range zero = refl
+  never-leaves-range (suc k) = neither-or (leavesRange k m) (coordinateOutOfRange (refined (suc k) m)) (never-leaves-range k) (refined-near (suc k))
 
   pub accepted-again : (k : ℕ) → tooLarge k (topology m) ≡ false → Accepted (refined k m)
   accepted-again k h = refined-accepted k m ok h (refined-near k)

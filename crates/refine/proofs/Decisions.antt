@@ -24,7 +24,7 @@ use Rattle.soundness.specs.Accepted.{Accepted}
 use Rattle.soundness.specs.Growth.{InRange}
 use Rattle.soundness.proofs.Checks.{accepted-passes}
 use Rattle.soundness.proofs.Rounds.{counts-now, in-range}
-use Rattle.accuracy.proofs.Accepted.{never-strays}
+use Rattle.accuracy.proofs.Accepted.{never-leaves-range}
 use Rattle.counting.specs.Bounded.{Bounded}
 use Rattle.refine.specs.declared.plan.Lent.{Lent}
 use Rattle.refine.specs.declared.plan.Plan.{Plan}
@@ -65,7 +65,7 @@ pub refusal-rounds : (m : Mesh) (rounds : ℕ) (l : Lengths) → Accepted m
 unfolding refiningRefusal
 refusal-rounds m rounds l a =
     accepted-passes m a _
-    ∙ ap (λ (b : Bool). check (tooManyRounds rounds) 9 (check (tooLarge rounds (topology m)) 10 (check (shortForRefining l (finishedCounts rounds (topology m))) 11 (check b 12 0)))) (never-strays m a rounds)
+    ∙ ap (λ (b : Bool). check (tooManyRounds rounds) 9 (check (tooLarge rounds (topology m)) 10 (check (shortForRefining l (finishedCounts rounds (topology m))) 11 (check b 12 0)))) (never-leaves-range m a rounds)
 
 -- ---- the sizes of a mesh that passed the checks fit
 

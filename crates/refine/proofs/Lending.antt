@@ -16,7 +16,7 @@ use Rattle.rules.specs.Lists.{overwritten}
 use Rattle.rules.specs.Mesh.{Mesh, topology}
 use Rattle.rules.specs.Averaging.{refined}
 use Rattle.rules.specs.Counts.{sizes, sizesAfter, countsIn, countsOf, finishedCounts, noCounts, outOfRange, fewer}
-use Rattle.rules.specs.Refusals.{check, meshChecks, tooManyRounds, tooLarge, strays}
+use Rattle.rules.specs.Refusals.{check, meshChecks, tooManyRounds, tooLarge, leavesRange}
 use Rattle.rules.specs.EntryPoints.{countsAnswer, cleared, clearedTables, resultTables, lentBy, shortForRefining, refiningRefusal, refiningAnswer, refiningOutput}
 use Rattle.lists.proofs.Tests.{or-neither, false≢true}
 use Rattle.soundness.specs.Accepted.{Accepted}
@@ -25,7 +25,7 @@ use Rattle.soundness.specs.Growth.{AtMost, InRange}
 use Rattle.soundness.proofs.Rounds.{in-range, refined-sizes, refined-entire}
 use Rattle.soundness.proofs.SplitSizes.{after-grows}
 use Rattle.accuracy.specs.Property3.{Property3}
-use Rattle.accuracy.proofs.Accepted.{accepted-property-3, never-strays}
+use Rattle.accuracy.proofs.Accepted.{accepted-property-3, never-leaves-range}
 use Rattle.refine.specs.declared.plan.Lent.{Lent}
 use Rattle.refine.specs.declared.plan.Plan.{Plan}
 use Rattle.refine.specs.Front.{front, Room}
@@ -74,9 +74,9 @@ module _ {n : ℕ} {m : Mesh} {s : Sizes} {out work : Mesh} {words longs : List 
         })
 
     -- what the rounds of the copy leave
-    pub copy-refined : (r : ℕ) (o′ : Mesh) → r ≡ check (strays n (front s o)) 12 0 → o′ ≡ resultTables 0 o (refined n (front s o)) → (r ≡ check (strays n m) 12 0) × (o′ ≡ resultTables 0 out (refined n m))
+    pub copy-refined : (r : ℕ) (o′ : Mesh) → r ≡ check (leavesRange n (front s o)) 12 0 → o′ ≡ resultTables 0 o (refined n (front s o)) → (r ≡ check (leavesRange n m) 12 0) × (o′ ≡ resultTables 0 out (refined n m))
     copy-refined r o′ f g = (
-      f ∙ ap (λ (x : Mesh). check (strays n x) 12 0) copied-front,
+      f ∙ ap (λ (x : Mesh). check (leavesRange n x) 12 0) copied-front,
       g
           ∙ ap (λ (x : Mesh). resultTables 0 o (refined n x)) copied-front
           ∙ ap (λ (x : Mesh). resultTables 0 x (refined n m)) e
@@ -180,11 +180,11 @@ module _ (m : Mesh) (rounds : ℕ) (out work : Mesh) (words longs : List ℕ) (l
     pub plan-answerable : Answerable (p .finished)
     plan-answerable = none-answerable m rounds out work words longs none (p .finished) (plan .finished zero)
 
-    pub plan-accepted : (n : ℕ) (r : CountsAnswer) (o : Mesh) → n ≡ check (strays rounds m) 12 0 → r ≡ countsAnswer n (countsIn (p .finished)) → o ≡ resultTables 0 out (refined rounds m) → (r ≡ refiningAnswer m rounds out work words longs) × (o ≡ refiningOutput m rounds out work words longs)
+    pub plan-accepted : (n : ℕ) (r : CountsAnswer) (o : Mesh) → n ≡ check (leavesRange rounds m) 12 0 → r ≡ countsAnswer n (countsIn (p .finished)) → o ≡ resultTables 0 out (refined rounds m) → (r ≡ refiningAnswer m rounds out work words longs) × (o ≡ refiningOutput m rounds out work words longs)
     unfolding refiningAnswer refiningOutput finishedCounts
     plan-accepted n r o f e g =
         let a = none-accepted m rounds out work words longs none in
-        let z : n ≡ refiningRefusal m rounds (lentBy out work words longs) = f ∙ ap (λ (b : Bool). check b 12 0) (never-strays m a rounds) ∙ sym none in (
+        let z : n ≡ refiningRefusal m rounds (lentBy out work words longs) = f ∙ ap (λ (b : Bool). check b 12 0) (never-leaves-range m a rounds) ∙ sym none in (
           e ∙ ap (λ (f : Sizes). countsAnswer n (countsIn f)) (plan .finished zero) ∙ ap (λ (k : ℕ). countsAnswer k (countsIn (sizesAfter rounds (sizes (topology m))))) z,
           g ∙ ap (λ (k : ℕ). resultTables k out (refined rounds m)) (sym none),
         )

@@ -306,7 +306,7 @@ module _ {n k : ℕ} {m : Mesh} {s₀ s : Sizes} {out₀ out work₀ work : Mesh
     next-holds : out′ ≡ resultTables 0 out₀ (refined (suc k) m)
     next-holds = turned ready k h out out′ (t .holds) (f ∙ ap (λ (r : Sizes). resultTables 0 out (round (front r out))) (t .sized))
 
-    -- no coordinate strays
+    -- no coordinate leaves its range
     pub turning-near : any outside (take (3 * s′ .vertices) (out′ .vertices)) ≡ false
     unfolding front coordinateOutOfRange
     turning-near =

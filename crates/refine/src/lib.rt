@@ -17,7 +17,7 @@ ghost use Rattle.rules.specs.declared.Counts.{Counts};
 ghost use Rattle.rules.specs.Mesh.{mesh};
 ghost use Rattle.rules.specs.Averaging.{refined};
 ghost use Rattle.rules.specs.Counts.{countsIn};
-ghost use Rattle.rules.specs.Refusals.{check, strays};
+ghost use Rattle.rules.specs.Refusals.{check, leavesRange};
 ghost use Rattle.rules.specs.EntryPoints.{countsAnswer, resultTables, refiningAnswer, refiningOutput, clearedTables, cleared};
 ghost use Rattle.accuracy.specs.Property3.{Property3};
 ghost use Rattle.refine.specs.Ready.{ReadyFor, Answerable};
@@ -89,7 +89,7 @@ fn accepted(
         ⌜ ReadyFor rounds m start out (mesh (now wx) (now wh) (now wq) (now ws) (now wp)) (now words) (now longs) ⌝ }
     ensures { λ r.
         let m = mesh (now (xs .entry)) (now (hs .entry)) (now (qs .entry)) (now (ss .entry)) (now (ps .entry)) in
-        ⌜ r ≡ check (strays rounds m) 12 0 ⌝ }
+        ⌜ r ≡ check (leavesRange rounds m) 12 0 ⌝ }
     ensures { λ _.
         let m = mesh (now (xs .entry)) (now (hs .entry)) (now (qs .entry)) (now (ss .entry)) (now (ps .entry)) in
         let old = mesh (now (ox .entry)) (now (oh .entry)) (now (oq .entry)) (now (os .entry)) (now (op .entry)) in
@@ -161,7 +161,7 @@ fn run(
     if refusal != 0 {
         return refused(refusal);
     }
-    let strayed = accepted(
+    let range_refusal = accepted(
         xs,
         hs,
         qs,
@@ -182,7 +182,7 @@ fn run(
         words,
         longs,
     );
-    answer(strayed, finished)
+    answer(range_refusal, finished)
 }
 
 // Refining, for every input: document 01's answer; the finished mesh at the front of the output tables, which a refusal leaves as they were;

@@ -6,7 +6,7 @@ ghost use Prim.Native.Nat.{_*_, _≤_};
 ghost use lib.ListN.{length, take};
 ghost use Rattle.rules.specs.Lists.{any};
 ghost use Rattle.rules.specs.Mesh.{mesh};
-ghost use Rattle.rules.specs.Refusals.{check, outside, strays};
+ghost use Rattle.rules.specs.Refusals.{check, outside, leavesRange};
 ghost use Rattle.rules.specs.Averaging.{round, refined};
 ghost use Rattle.rules.specs.EntryPoints.{resultTables};
 ghost use Rattle.refine.specs.Front.{front, Room};
@@ -134,7 +134,7 @@ pub fn turn(
 }
 
 // Whether a coordinate of the mesh of the given sizes at the front of a table is out of range: check 12.
-fn strayed(sizes: Sizes, xs: &[i32]) -> bool
+fn leaves_range(sizes: Sizes, xs: &[i32]) -> bool
     requires { ⌜ 3 * sizes .vertices ≤ length (now xs) ⌝ }
     ensures { λ r. ⌜ r ≡ any outside (take (3 * sizes .vertices) (now (xs .entry))) ⌝ }
 {
@@ -142,7 +142,7 @@ fn strayed(sizes: Sizes, xs: &[i32]) -> bool
     checks::tables::has_coordinate_out_of_range(&xs[..n])
 }
 
-// The rounds, one after the other, of the mesh at the front of the output tables. Answers 12 where a round strays, which never happens.
+// The rounds, one after the other, of the mesh at the front of the output tables. Answers 12 where a round leaves the range, which never happens.
 pub fn turns(
     rounds: u32,
     start: Sizes,
@@ -163,7 +163,7 @@ pub fn turns(
         ⌜ ReadyFor rounds (front start out) start out (mesh (now wx) (now wh) (now wq) (now ws) (now wp)) (now words) (now longs) ⌝ }
     ensures { λ r.
         let m = front start (mesh (now (ox .entry)) (now (oh .entry)) (now (oq .entry)) (now (os .entry)) (now (op .entry))) in
-        ⌜ r ≡ check (strays rounds m) 12 0 ⌝ }
+        ⌜ r ≡ check (leavesRange rounds m) 12 0 ⌝ }
     ensures { λ _.
         let old = mesh (now (ox .entry)) (now (oh .entry)) (now (oq .entry)) (now (os .entry)) (now (op .entry)) in
         ⌜ mesh (now (ox .exit)) (now (oh .exit)) (now (oq .exit)) (now (os .exit)) (now (op .exit)) ≡ resultTables 0 old (refined rounds (front start old)) ⌝ }
@@ -173,7 +173,7 @@ pub fn turns(
     while k < rounds {
         turn(sizes, ox, oh, oq, os, op, wx, wh, wq, ws, wp, words, longs);
         sizes = counting::next_sizes(sizes);
-        if strayed(sizes, ox) {
+        if leaves_range(sizes, ox) {
             return 12;
         }
         k += 1;

@@ -17,7 +17,7 @@ use Rattle.rules.specs.Lists.{keep, upFrom, overwritten}
 use Rattle.rules.specs.Mesh.{Mesh, Topology, topology}
 use Rattle.rules.specs.Averaging.{rank, valence, refined}
 use Rattle.rules.specs.Counts.{countsOf, finishedCounts, noCounts, fewer}
-use Rattle.rules.specs.Refusals.{check, outside, meshChecks, tooManyRounds, tooLarge, strays}
+use Rattle.rules.specs.Refusals.{check, outside, meshChecks, tooManyRounds, tooLarge, leavesRange}
 
 -- ---- answers: "Every refusal returns its number and zero counts (zeros in place of any other numbers)"
 
@@ -86,7 +86,7 @@ refiningRefusal m rounds lent =
     (check (tooManyRounds rounds) 9
     (check (tooLarge rounds t) 10
     (check (shortForRefining lent (finishedCounts rounds t)) 11
-    (check (strays rounds m) 12 0))))
+    (check (leavesRange rounds m) 12 0))))
 
 -- the memory that slices lend
 abbrev pub lentBy : Mesh → Mesh → List ℕ → List ℕ → Lent

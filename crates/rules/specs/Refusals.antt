@@ -88,9 +88,9 @@ tooLarge rounds t = outOfRange (finishedCounts rounds t)
 
 -- ---- 12, document 01: strayed. "a round leaves a coordinate out of range"
 
-unfoldable pub strays : ℕ → Mesh → Bool
-strays zero m = false
-strays (suc k) m = strays k m || coordinateOutOfRange (refined (suc k) m)
+unfoldable pub leavesRange : ℕ → Mesh → Bool
+leavesRange zero m = false
+leavesRange (suc k) m = leavesRange k m || coordinateOutOfRange (refined (suc k) m)
 
 -- ---- checks that several entry points make
 

@@ -96,7 +96,7 @@ impl Round {
         for place in 0..self.sums.len() {
             let coordinate = self.written(place / 3, place % 3);
             if coordinate < i128::from(LEAST_COORDINATE) || coordinate > i128::from(GREATEST_COORDINATE) {
-                return Err(Refusal::Strayed);
+                return Err(Refusal::CoordinateLeftRange);
             }
             vertices.push(coordinate as i32);
         }
@@ -129,7 +129,7 @@ pub fn refined(mesh: &Mesh, rounds: u32) -> Result<Mesh, Refusal> {
 pub fn stages(mesh: &Mesh, rounds: u32) -> Vec<Mesh> {
     let mut stages = vec![mesh.clone()];
     for round in 0..rounds as usize {
-        let fine = Round::of(&stages[round]).fine_mesh().expect("no coordinate strays");
+        let fine = Round::of(&stages[round]).fine_mesh().expect("no coordinate leaves its range");
         stages.push(fine);
     }
     stages

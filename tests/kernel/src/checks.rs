@@ -10,14 +10,14 @@ type Check = (Refusal, fn(&Mesh) -> bool);
 
 /// Checks 1 to 8 in their order.
 const MESH_CHECKS: [Check; 8] = [
-    (Refusal::RaggedTable, has_ragged_table),
-    (Refusal::WrongSize, has_wrong_size),
-    (Refusal::FarVertex, has_far_vertex),
-    (Refusal::UnknownCorner, has_unknown_corner),
-    (Refusal::FoldedCell, has_folded_cell),
-    (Refusal::DoubledCell, has_doubled_cell),
-    (Refusal::TwistedFace, has_twisted_face),
-    (Refusal::LooseVertex, has_loose_vertex),
+    (Refusal::PartialEntry, has_ragged_table),
+    (Refusal::CountOutOfRange, has_wrong_size),
+    (Refusal::CoordinateOutOfRange, has_far_vertex),
+    (Refusal::CornerOutOfRange, has_unknown_corner),
+    (Refusal::RepeatedCorner, has_folded_cell),
+    (Refusal::DuplicateCell, has_doubled_cell),
+    (Refusal::MismatchedFace, has_twisted_face),
+    (Refusal::IsolatedVertex, has_loose_vertex),
 ];
 
 /// Checks 1 up to the given number, 8 at most.

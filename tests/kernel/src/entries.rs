@@ -73,7 +73,9 @@ impl Kernel for Oracle {
 
     fn millimetres(&self, coordinates: [i32; 3]) -> MillimetresAnswer {
         let [x, y, z] = coordinates.map(|units| f64::from(units) / 1024.0);
-        refuse_if(coordinates.into_iter().any(is_far), Refusal::FarVertex).map(|()| Position { x, y, z }).into()
+        refuse_if(coordinates.into_iter().any(is_far), Refusal::CoordinateOutOfRange)
+            .map(|()| Position { x, y, z })
+            .into()
     }
 
     fn read(&self, bytes: &[u8], tables: &mut Mesh) -> CountsAnswer {

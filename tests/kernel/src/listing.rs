@@ -18,7 +18,7 @@ pub fn listing(input: &[u8]) -> String {
 
 fn refine_input(input: &[u8]) -> Result<Mesh, Refusal> {
     refuse_if(input.len() > MOST_INPUT, Refusal::ShortBuffer)?;
-    let (rounds, stored) = input.split_first().ok_or(Refusal::WrongLength)?;
+    let (rounds, stored) = input.split_first().ok_or(Refusal::WrongFileLength)?;
     refine_within(stored, u32::from(*rounds), FIXED_PLACES)
 }
 

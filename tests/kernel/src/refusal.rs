@@ -4,22 +4,34 @@
 #[repr(u32)]
 #[derive(Clone, Copy, Debug, PartialEq, Eq, PartialOrd, Ord, Hash)]
 pub enum Refusal {
-    RaggedTable = 1,
-    WrongSize = 2,
-    FarVertex = 3,
-    UnknownCorner = 4,
-    FoldedCell = 5,
-    DoubledCell = 6,
-    TwistedFace = 7,
-    LooseVertex = 8,
+    /// document 01: ragged table
+    PartialEntry = 1,
+    /// document 01: wrong size
+    CountOutOfRange = 2,
+    /// document 01: far vertex
+    CoordinateOutOfRange = 3,
+    /// document 01: unknown corner
+    CornerOutOfRange = 4,
+    /// document 01: folded cell
+    RepeatedCorner = 5,
+    /// document 01: doubled cell
+    DuplicateCell = 6,
+    /// document 01: twisted face
+    MismatchedFace = 7,
+    /// document 01: loose vertex
+    IsolatedVertex = 8,
     TooManyRounds = 9,
     TooLarge = 10,
     ShortBuffer = 11,
-    Strayed = 12,
-    WrongLength = 13,
+    /// document 01: strayed
+    CoordinateLeftRange = 12,
+    /// document 01: wrong length
+    WrongFileLength = 13,
     UnknownForm = 14,
-    WrongWidth = 15,
-    SpareBits = 16,
+    /// document 01: wrong width
+    WrongIndexWidth = 15,
+    /// document 01: spare bits
+    NonzeroPadding = 16,
 }
 
 impl Refusal {

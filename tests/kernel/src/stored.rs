@@ -99,20 +99,20 @@ pub fn encode_with_width(mesh: &Mesh, width: usize) -> Vec<u8> {
 
 /// Reading in its order: 13 (under 13 bytes), 14, 2, 15, 13 (whole length), 16, 4, 11.
 pub fn decode(bytes: &[u8], places: [usize; 5]) -> Result<Mesh, Refusal> {
-    refuse_if(bytes.len() < HEADER_BYTES, Refusal::WrongLength)?;
+    refuse_if(bytes.len() < HEADER_BYTES, Refusal::WrongFileLength)?;
     let mut reader = BitReader { bytes, bits: 0 };
     refuse_if(reader.field(4) != FORM, Refusal::UnknownForm)?;
     let width = reader.field(5) as usize;
     let counts = [20, 18, 18, 18, 18].map(|field_width| reader.field(field_width) as usize);
-    refuse_if(counts_out_of_range(counts), Refusal::WrongSize)?;
-    refuse_if(width != index_width(counts[0]), Refusal::WrongWidth)?;
+    refuse_if(counts_out_of_range(counts), Refusal::CountOutOfRange)?;
+    refuse_if(width != index_width(counts[0]), Refusal::WrongIndexWidth)?;
     let bits = used_bits(counts, width);
-    refuse_if(bytes.len() != bits.div_ceil(8), Refusal::WrongLength)?;
+    refuse_if(bytes.len() != bits.div_ceil(8), Refusal::WrongFileLength)?;
     let spare = BitReader { bytes, bits }.field(8 * bytes.len() - bits);
-    refuse_if(spare != 0, Refusal::SpareBits)?;
+    refuse_if(spare != 0, Refusal::NonzeroPadding)?;
     let mesh = decode_tables(&mut reader, counts, width);
     let unknown = |table: &[u32]| table.iter().any(|&corner| corner as usize >= counts[0]);
-    refuse_if(mesh.tables().into_iter().any(unknown), Refusal::UnknownCorner)?;
+    refuse_if(mesh.tables().into_iter().any(unknown), Refusal::CornerOutOfRange)?;
     let short = places.iter().zip(counts).any(|(&places, count)| places < count);
     refuse_if(short, Refusal::ShortBuffer)?;
     Ok(mesh)
@@ -160,7 +160,7 @@ mod tests {
         for bit in 0..8 {
             let mut damaged = bytes.clone();
             *damaged.last_mut().unwrap() ^= 1 << bit;
-            assert_eq!(decode(&damaged, ROOM) == Err(Refusal::SpareBits), bit < spare);
+            assert_eq!(decode(&damaged, ROOM) == Err(Refusal::NonzeroPadding), bit < spare);
         }
     }
 }

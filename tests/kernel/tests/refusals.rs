@@ -82,10 +82,10 @@ fn the_limits_of_sizes_pass() {
     let points =
         |count: usize| Mesh { vertices: vec![0; 3 * count], points: (0..count as u32).collect(), ..Mesh::default() };
     assert_eq!(check_mesh(&points(250_000), 8), Ok(()));
-    assert_eq!(check_mesh(&points(250_001), 8), Err(Refusal::WrongSize));
+    assert_eq!(check_mesh(&points(250_001), 8), Err(Refusal::CountOutOfRange));
     let vertices = |count: usize| Mesh { vertices: vec![0; 3 * count], ..Mesh::default() };
-    assert_eq!(check_mesh(&vertices(1_000_000), 8), Err(Refusal::LooseVertex));
-    assert_eq!(check_mesh(&vertices(1_000_001), 8), Err(Refusal::WrongSize));
+    assert_eq!(check_mesh(&vertices(1_000_000), 8), Err(Refusal::IsolatedVertex));
+    assert_eq!(check_mesh(&vertices(1_000_001), 8), Err(Refusal::CountOutOfRange));
 }
 
 #[test]

@@ -135,8 +135,8 @@ fn irregular_counts_of_p1_and_p5() {
 
 #[test]
 fn empty_vertex_tables_have_the_wrong_size() {
-    assert_eq!(check_mesh(&Mesh::default(), 8), Err(Refusal::WrongSize));
-    assert_eq!(check_mesh(&Mesh { points: vec![0], ..Mesh::default() }, 8), Err(Refusal::WrongSize));
+    assert_eq!(check_mesh(&Mesh::default(), 8), Err(Refusal::CountOutOfRange));
+    assert_eq!(check_mesh(&Mesh { points: vec![0], ..Mesh::default() }, 8), Err(Refusal::CountOutOfRange));
 }
 
 #[test]

@@ -1,4 +1,4 @@
--- `refine::turn::turns` meets its contract: after k rounds the output tables begin with the mesh after k rounds, and no round strays.
+-- `refine::turn::turns` meets its contract: after k rounds the output tables begin with the mesh after k rounds, and no round leaves the range.
 -- Assumes nothing.
 use mathlib.Core.Path.{_≡_, refl, sym, ap, subst, _∙_}
 use mathlib.Core.Bool.{Bool, true, false}
@@ -10,10 +10,10 @@ use denote.Ref.{now}
 use lib.ListN.{length}
 use Rattle.rules.specs.Mesh.{Mesh, mesh}
 use Rattle.rules.specs.Averaging.{refined}
-use Rattle.rules.specs.Refusals.{check, strays}
+use Rattle.rules.specs.Refusals.{check, leavesRange}
 use Rattle.rules.specs.EntryPoints.{resultTables}
 use Rattle.lists.proofs.Tests.{false≢true}
-use Rattle.accuracy.proofs.Accepted.{never-strays}
+use Rattle.accuracy.proofs.Accepted.{never-leaves-range}
 use Rattle.refine.specs.Front.{front}
 use Rattle.refine.specs.Ready.{ReadyFor}
 use Rattle.refine.proofs.Turns.{Turning, turning-starts, turning-ready, turning-bounded, turning-next, turning-near, turning-covers}
@@ -29,7 +29,7 @@ abbrev μ-loop : tie.MeasureT-loop
     rounds - k
 
 -- from the test of the coordinates back to the call of a round, from there to the loop's head, and to the start
-abbrev called : tie.After-strayed-arg Inv-loop μ-loop → tie.After-turn Inv-loop μ-loop
+abbrev called : tie.After-leaves-range-arg Inv-loop μ-loop → tie.After-turn Inv-loop μ-loop
 called c = c .before .before .before .before .before .before .before .before .before .before .before .before .before .before .before .before .before .before .before .before .before .before .before .before
 
 abbrev head : tie.After-turn Inv-loop μ-loop → tie.In-loop Inv-loop μ-loop
@@ -47,19 +47,19 @@ turn-requires c κs = let l = c .before .before .before .before .before .before 
 next-sizes-requires : tie.Need-next-sizes-requires Inv-loop μ-loop
 next-sizes-requires c κs = let l = c .before .before .before .before .before .before .before .before .before .before .before .before .before .before .before .before .before .before .before .before .before .before .before .before .before .before .before .before .before .before .before .before .before .before .before in turning-bounded (start l .pre) (l .before .loop .inv) (l .loop-test .taken)
 
-strayed-requires : tie.Need-strayed-requires Inv-loop μ-loop
-strayed-requires c κs =
+leaves-range-requires : tie.Need-leaves-range-requires Inv-loop μ-loop
+leaves-range-requires c κs =
     let t = called c in
     let l = head t in
     turning-covers (start l .pre) (l .before .loop .inv) (l .loop-test .taken) (c .before .next-sizes .ensures) (t .turn .ensures)
 
--- no round strays
+-- no round leaves the range
 dead : tie.Then1 Inv-loop μ-loop → ⊥
 dead c =
     let t = called (c .before .before) in
     let l = head t in
     let near = turning-near (start l .pre) (l .before .loop .inv) (l .loop-test .taken) (c .before .before .before .next-sizes .ensures) (t .turn .ensures) in
-    false≢true (sym near ∙ sym (c .before .strayed .ensures) ∙ c .if1 .taken)
+    false≢true (sym near ∙ sym (c .before .leaves-range .ensures) ∙ c .if1 .taken)
 
 add-k : tie.Need-add-k Inv-loop μ-loop
 add-k c =
@@ -89,7 +89,7 @@ returns-2 c =
     let m = front (a .start) out in
     let i = l .loop .inv in
     let e : l .loop .k ≡ a .rounds = omega (arith, c .loop-test .left, i .upTo) in (
-      sym (ap (λ (b : Bool). check b 12 0) (never-strays m (s .pre .accepted) (a .rounds))),
+      sym (ap (λ (b : Bool). check b 12 0) (never-leaves-range m (s .pre .accepted) (a .rounds))),
       i .holds ∙ ap (λ (k : ℕ). resultTables 0 out (refined k m)) e,
     )
 
@@ -102,7 +102,7 @@ turns-spec =
     loop-holds
     turn-requires
     next-sizes-requires
-    strayed-requires
+    leaves-range-requires
     (λ c. absurd (dead c))
     (λ c. absurd (dead c))
     (λ c. absurd (dead c))
