@@ -182,7 +182,8 @@ fn children(smallest: &[u8], numbers: &[u32], out: &mut [u32], at: usize)
     parts::load(smallest, numbers, &mut out[at..end]);
 }
 
-// Meets a cell, given by its corner numbers, and writes the corners of its children to `out` from `at` on.
+// Meets a cell, given by its corner numbers, and writes the corners of its children to `out` from `at` on. `numbers` is lent for the
+// numbers of its fine vertices.
 fn split_cell(
     w: &mut [u32],
     base: Base,
@@ -193,6 +194,7 @@ fn split_cell(
     smallest: &[u8],
     cell: &[u32],
     own: usize,
+    numbers: &mut [u32],
     out: &mut [u32],
     at: usize,
 ) -> Known
@@ -202,13 +204,13 @@ fn split_cell(
     requires { ⌜ base .vertices + base .edges + base .faces ≤ 2 ^ 32 ⌝ }
     requires { ⌜ own < 2 ^ 32 ⌝ }
     requires { ⌜ at + cornerCount kind * cornerCount kind ≤ length (now out) ⌝ }
+    requires { ⌜ 27 ≤ length (now numbers) ⌝ }
     ensures { λ r.
         ⌜ BothMet base (now (w .entry)) (now (w .exit)) n (partKeys (edgesOf kind) (now (cell .entry)))
         (partKeys (facesOf kind) (now (cell .entry))) r ⌝ }
     ensures { λ _.
         ⌜ CellSplit base (now (w .entry)) n kind (now (cell .entry)) own at (now (out .entry)) (now (out .exit)) ⌝ }
 {
-    let mut numbers = [0u32; 27];
     let more = cell_numbers(
         w,
         base,
@@ -218,13 +220,13 @@ fn split_cell(
         face_places,
         cell,
         own,
-        &mut numbers,
+        numbers,
     );
-    children(smallest, &numbers, out, at);
+    children(smallest, numbers, out, at);
     more
 }
 
-// Splits cell number i of a flat table: its corner numbers are fetched once, and handed on.
+// Splits cell number i of a flat table: its corner numbers are fetched once, to the lent `cell`, and handed on.
 fn split_entry(
     w: &mut [u32],
     base: Base,
@@ -236,6 +238,8 @@ fn split_entry(
     cells: &[u32],
     i: usize,
     own: usize,
+    cell: &mut [u32],
+    numbers: &mut [u32],
     out: &mut [u32],
 ) -> Known
     requires { ⌜ Room base (now w) n (partKeys (edgesOf kind) (entryOf kind (now cells) i)) (partKeys (facesOf kind) (entryOf kind (now cells) i)) ⌝ }
@@ -244,6 +248,8 @@ fn split_entry(
     requires { ⌜ base .vertices + base .edges + base .faces ≤ 2 ^ 32 ⌝ }
     requires { ⌜ own < 2 ^ 32 ⌝ }
     requires { ⌜ cornerCount kind * (cornerCount kind * (i + 1)) ≤ length (now out) ⌝ }
+    requires { ⌜ 8 ≤ length (now cell) ⌝ }
+    requires { ⌜ 27 ≤ length (now numbers) ⌝ }
     ensures { λ r.
         ⌜ BothMet base (now (w .entry)) (now (w .exit)) n (partKeys (edgesOf kind) (entryOf kind (now (cells .entry)) i))
         (partKeys (facesOf kind) (entryOf kind (now (cells .entry)) i)) r ⌝ }
@@ -254,8 +260,7 @@ fn split_entry(
     let corners = kinds::corner_count(kind);
     let at = corners * i;
     let end = at + corners;
-    let mut cell = [0u32; 8];
-    memory::copy_u32(&cells[at..end], &mut cell);
+    memory::copy_u32(&cells[at..end], cell);
     split_cell(
         w,
         base,
@@ -266,12 +271,14 @@ fn split_entry(
         smallest,
         &cell[..corners],
         own,
+        numbers,
         out,
         corners * at,
     )
 }
 
-// Splits all cells of a flat table, with the tables of their kind.
+// Splits all cells of a flat table, with the tables of their kind. The arrays for a cell's corners and for its numbers are made once and
+// lent to each turn: clearing them for each cell costs more than splitting a segment.
 fn split_each(
     w: &mut [u32],
     base: Base,
@@ -297,6 +304,8 @@ fn split_each(
         (now (out .entry)) (now (out .exit)) ⌝ }
 {
     let count = cells.len() / kinds::corner_count(kind);
+    let mut cell = [0u32; 8];
+    let mut numbers = [0u32; 27];
     let mut known = n;
     let mut i = 0;
     while i < count {
@@ -311,6 +320,8 @@ fn split_each(
             cells,
             i,
             own + i,
+            &mut cell,
+            &mut numbers,
             out,
         );
         i += 1;

@@ -16,22 +16,22 @@ use Rattle.splitting.proofs.cells.split_cell.Tie as tie
 
 cell-numbers-requires : tie.Need-cell-numbers-requires
 cell-numbers-requires c κs =
-    let p = c .before .before .before .before .before .before .before .before .pre in
-    (p .0, (p .1 .0 .edges-are, (p .1 .0 .faces-are, (p .1 .1 .0, (p .1 .1 .1 .0, (p .1 .1 .1 .1 .0, omega arith))))))
+    let p = c .before .before .before .before .before .before .before .before .before .pre in
+    (p .0, (p .1 .0 .edges-are, (p .1 .0 .faces-are, (p .1 .1 .0, (p .1 .1 .1 .0, (p .1 .1 .1 .1 .0, p .1 .1 .1 .1 .1 .1))))))
 
 children-requires : tie.Need-children-requires
 children-requires c κs =
-    let a = c .before .before .before .before .before .before .before .before .before .before .before .before .before .before in
+    let a = c .before .before .before .before .before .before .before .before .before .before .before .before .before .before .before .before in
     let k = a .args .kind in
-    let long = c .before .before .before .before .before .cell-numbers .kept .1 .1 .1 .1 .1 .1 .1 .1 .0 in
+    let long = c .before .before .before .before .before .before .cell-numbers .kept .1 .1 .1 .1 .1 .1 .1 .1 .0 in
     rw (a .pre .1 .0 .smallest-are)
-    (λ i l. omega (arith, smallest-within k i l, few-numbers k, long), omega (arith, length-smallest k, a .pre .1 .1 .1 .1 .1))
+    (λ i l. omega (arith, smallest-within k i l, few-numbers k, long, a .pre .1 .1 .1 .1 .1 .1), omega (arith, length-smallest k, a .pre .1 .1 .1 .1 .1 .0))
 
 returns : tie.Need-returns
 returns c =
-    let a = c .before .before .before .before .before .before .before .before .before .before .before .before .before .before .before .before .before in
+    let a = c .before .before .before .before .before .before .before .before .before .before .before .before .before .before .before .before .before .before .before in
     let x = a .args in
-    let m = c .before .before .before .before .before .before .before .before .cell-numbers in
+    let m = c .before .before .before .before .before .before .before .before .before .cell-numbers in
     let stored = m .last .1 .1 .1 .1 .1 .1 .1 .1 .0 in (
       m .ensures .0,
       λ es fs.
@@ -48,10 +48,9 @@ pub split-cell-spec : {M : Type 1} → statement M
 split-cell-spec =
     tie.close
     (tie.spec
-    (λ c. search needs)
     cell-numbers-requires
-    (λ c. search needs)
     children-requires
+    (λ c. search needs)
     (λ c. search needs)
     (λ c. search needs)
     returns)

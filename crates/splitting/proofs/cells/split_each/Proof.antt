@@ -79,11 +79,11 @@ end {base} {w₀} {w} {n} {kind} {cells} {own} {old} {new} {known} {i} p l =
     (rw (take-all i (cellsIn kind cells) (omega (arith, length-cut (cornerCount kind) cells))) at (p .met), rw e at (p .stored))
 
 abbrev Inv-loop : tie.InvT-loop
-Inv-loop w₀ base kind edges faces smallest cells own out₀ count known₀ i₀ w out known i =
-    (length w ≡ length w₀) × (length out ≡ length out₀) × Walked base w₀ w known₀ kind cells own out₀ out known i
+Inv-loop w₀ base kind edges faces smallest cells own out₀ count cell₀ numbers₀ known₀ i₀ w out cell numbers known i =
+    (length w ≡ length w₀) × (length out ≡ length out₀) × (length cell ≡ 8) × (length numbers ≡ 27) × Walked base w₀ w known₀ kind cells own out₀ out known i
 
 abbrev μ-loop : tie.MeasureT-loop
-μ-loop w₀ base kind edges faces smallest cells own out₀ count known₀ i₀ w out known i = count - i
+μ-loop w₀ base kind edges faces smallest cells own out₀ count cell₀ numbers₀ known₀ i₀ w out cell numbers known i = count - i
 
 -- the cell is one of the table's
 inside : (c : tie.In-loop Inv-loop μ-loop) → let a = c .before .before .before .before .before .before .before .before .before in c .before .loop .i < length (a .args .cells .now) / cornerCount (a .args .kind)
@@ -91,18 +91,23 @@ inside c = rw (c .before .before .corner-count .ensures) at (c .loop-test .taken
 
 split-entry-requires : tie.Need-split-entry-requires Inv-loop μ-loop
 split-entry-requires c κs =
-    let l = c .before .before .before in
-    let a = c .before .before .before .before .before .before .before .before .before .before .before in
+    let l = c .before .before .before .before .before in
+    let a = c .before .before .before .before .before .before .before .before .before .before .before .before .before in
     let k = cornerCount (a .args .kind) in
-    let u = inside (c .before .before) in
+    let u = inside (c .before .before .before .before) in
     let h = mul-le-mul-left k (mul-le-mul-left k u) in
-    (next-room (l .loop .inv .2) u (a .pre .0), (a .pre .1 .0, (u, (a .pre .1 .1 .0, (omega (arith, a .pre .1 .1 .1 .0), omega (arith, a .pre .1 .1 .1 .1, l .loop .inv .1))))))
+    (next-room (l .loop .inv .4) u (a .pre .0), (a .pre .1 .0, (u, (a .pre .1 .1 .0, (omega (arith, a .pre .1 .1 .1 .0), (omega (arith, a .pre .1 .1 .1 .1, l .loop .inv .1), (omega (arith, l .loop .inv .2), omega (arith, l .loop .inv .3))))))))
 
 loop-again : tie.Need-loop-again Inv-loop μ-loop
 loop-again c =
-    let l = c .before .before .before .before .before .before .before .before in
-    let d = c .before .before .before .before .split-entry in
-    (d .kept .0 ∙ l .loop .inv .0, d .kept .1 .1 .1 .1 .1 .1 .1 .1 .1 .1 .0 ∙ l .loop .inv .1, turn (l .loop .inv .2) (inside (c .before .before .before .before .before .before .before)) (d .ensures .0) (d .ensures .1))
+    let l = c .before .before .before .before .before .before .before .before .before .before .before .before in
+    let d = c .before .before .before .before .before .before .split-entry in (
+      d .kept .0 ∙ l .loop .inv .0,
+      d .kept .1 .1 .1 .1 .1 .1 .1 .1 .1 .1 .1 .1 .0 ∙ l .loop .inv .1,
+      d .kept .1 .1 .1 .1 .1 .1 .1 .1 .1 .1 .0 ∙ l .loop .inv .2,
+      d .kept .1 .1 .1 .1 .1 .1 .1 .1 .1 .1 .1 .0 ∙ l .loop .inv .3,
+      turn (l .loop .inv .4) (inside (c .before .before .before .before .before .before .before .before .before .before .before)) (d .ensures .0) (d .ensures .1),
+    )
 
 pub split-each-spec : {M : Type 1} → statement M
 split-each-spec =
@@ -112,12 +117,14 @@ split-each-spec =
     μ-loop
     (λ c κs. search needs)
     (λ c. rw (c .corner-count .ensures) (some-corners (c .before .before .before .before .before .before .before .args .kind)))
-    (λ c. (refl, refl, start _ _ _ _ _ _ _ _ _ (c .before .before .before .before .before .before .before .pre .0)))
+    (λ c. (refl, refl, refl, refl, start _ _ _ _ _ _ _ _ _ (c .before .before .before .before .before .before .before .pre .0)))
     (λ c. omega (arith, inside (c .before), c .before .before .before .before .before .before .before .before .before .before .pre .1 .1 .1 .0))
+    (λ c. sym (c .before .before .before .loop .inv .2))
+    (λ c. sym (c .before .before .before .before .loop .inv .3))
     split-entry-requires
-    (λ c. omega (arith, inside (c .before .before .before .before .before .before .before), c .before .before .before .before .before .before .before .before .before .before .before .before .before .before .before .before .pre .1 .1 .1 .0))
-    (λ c. omega (arith, c .before .before .before .before .before .before .before .loop-test .taken))
+    (λ c. omega (arith, inside (c .before .before .before .before .before .before .before .before .before .before .before), c .before .before .before .before .before .before .before .before .before .before .before .before .before .before .before .before .before .before .before .before .pre .1 .1 .1 .0))
+    (λ c. omega (arith, c .before .before .before .before .before .before .before .before .before .before .before .loop-test .taken))
     loop-again
     (λ c. c .before .loop .inv .0)
     (λ c. c .before .loop .inv .1)
-    (λ c. end (c .before .loop .inv .2) (rw (c .before .before .corner-count .ensures) at (c .loop-test .left))))
+    (λ c. end (c .before .loop .inv .4) (rw (c .before .before .corner-count .ensures) at (c .loop-test .left))))
