@@ -7,7 +7,7 @@ use native.Mathlib.Omega.{arith}
 use native.Mathlib.Nat.{mul-le-mul-left, zero-add}
 use lib.ListN.{length, getD, length-map}
 use lib.Dec.{eqb}
-use borrow.Author.Tests.{eqb-true, lt-ltb}
+use borrow.Author.Tests.{eqb-true}
 use Rattle.rules.specs.Lists.{any, concat, cut, has}
 use Rattle.rules.specs.Mesh.{Mesh, Kind, hex, quad, segment, point, corners, whole, smallest, Topology, topology, cellsOf}
 use Rattle.rules.specs.Split.{keyAt, parts, fineVertex, child, children, split}
@@ -126,7 +126,7 @@ module _ (m : Mesh) (s : Sound (topology m)) (κ : Kind) where
 
   module _ (a f : ℕ) where
     abbrev at : ℕ → ℕ → ℕ
-    at c = cornerCoordinate (corners κ) (table m κ) (corners κ * c) (m .vertices) a
+    at c = cornerCoordinate (table m κ) (corners κ * c) (m .vertices) a
 
     born-value : (c i : ℕ) → c < length cells → i < n → value m a (born c i) ≡ weighed n (getD (weightRows κ) i []) (at c)
     unfolding child fineVertex cornerCoordinate in-cells
@@ -135,7 +135,7 @@ module _ (m : Mesh) (s : Sound (topology m)) (κ : Kind) where
         let w = below-whole κ i l in
         child-total κ (λ (u : ℕ). biased (m .vertices) (3 * u + a)) (at c) (parts t) (cell c) (λ (j : ℕ). fineVertex (parts t) (cell c) (smallest κ i j)) i w
         (λ j k. at-index (keyAt (cell c) (smallest κ i j)) (parts t) (part-known t s x (smallest κ i j) (smallest-part κ i w j k)))
-        (λ u k. ap (λ (v : ℕ). biased (m .vertices) (3 * v + a)) (corner-at c u h k) ∙ ap (λ (b : Bool). cond b (biased (m .vertices) (3 * getD (table m κ) (n * c + u) 0 + a)) 0) (sym (lt-ltb u n k)))
+        (λ u k. ap (λ (v : ℕ). biased (m .vertices) (3 * v + a)) (corner-at c u h k))
 
     child-is : (d c i : ℕ) → c < length cells → i < n → (z : Tally) → childStep n (concat fine) (n * n * c + n * i) d (weighed n (getD (weightRows κ) i []) (at c)) f z ≡ visit (value m a) f d (born c i) z
     unfolding childStep visit

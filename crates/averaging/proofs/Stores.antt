@@ -34,7 +34,7 @@ module _ (words longs : List ℕ) (v : ℕ) (fits : 2 * v + 1 < length words) (f
           tally-same
           (getD-set-other (set words (2 * v) r) (2 * v + 1) (2 * f) k 0 (λ q. omega arith) ∙ getD-set-other words (2 * v) (2 * f) r 0 (λ q. n (omega arith)))
           (getD-set-other (set words (2 * v) r) (2 * v + 1) (2 * f + 1) k 0 (λ q. n (omega arith)) ∙ getD-set-other words (2 * v) (2 * f + 1) r 0 (λ q. omega arith))
-          (triple-other 0 longs v x y z (3 * f + a) (λ q. n (omega arith)) (λ q. n (omega arith)) (λ q. n (omega arith)))
+          (triple-other 0 longs v x y z f a h n)
 
 module _ (words longs : List ℕ) (v d : ℕ) (sums : List ℕ) where
   -- a cell of dimension d counts for v where v's rank is not below d

@@ -1,5 +1,5 @@
 -- Loops that store something for each of 0, 1, ..; and three elements stored at 3 f, 3 f + 1 and 3 f + 2. Assumes nothing.
-use mathlib.Core.Path.{_≡_, refl, _∙_, ap}
+use mathlib.Core.Path.{_≡_, refl, sym, _∙_, ap, subst}
 use mathlib.Core.Bool.{Bool, true, false, cond}
 use mathlib.Core.List.{List, [], _∷_}
 use Prim.Native.Nat.{ℕ, zero, suc, _+_, _*_, _≤_, _<_}
@@ -24,6 +24,17 @@ module _ {A : Type 0} (B : ℕ → A) (d : A) where
       go true e l f = let p : v ≡ u = eqb-true v u e in rw (lt-ltb v (u + 1) (omega arith), p)
       go false e true f = rw (lt-ltb v (u + 1) (omega (arith, ltb-true v u f)))
       go false e false f = rw (le-ltb v (u + 1) (above v u (ltb-false v u f) (eqb-false v u e)))
+
+-- one place more: what holds of it, and of those before it, which are unchanged
+pub one-more : {A : Type 0} (P : ℕ → A → Type 0) (f : ℕ) (new old : ℕ → A) → ((g : ℕ) → g < f → P g (old g)) → P f (new f) → ((g : ℕ) → (g ≡ f → ⊥) → new g ≡ old g) → (g : ℕ) → g < f + 1 → P g (new g)
+one-more P f new old below at same g h = go (eqb g f) refl
+  where
+    less : (g f : ℕ) → g < f + 1 → (g ≡ f → ⊥) → g < f
+    less g f h n = omega arith
+
+    go : (b : Bool) → eqb g f ≡ b → P g (new g)
+    go true e = subst (λ (g : ℕ). P g (new g)) (sym (eqb-true g f e)) at
+    go false e = let n = eqb-false g f e in subst (P g) (sym (same g n)) (below g (less g f h n))
 
 module _ {A : Type 0} (d : A) where
   -- what holds of each of three elements, by axis
@@ -51,12 +62,12 @@ module _ {A : Type 0} (d : A) where
   triple-all P l f x y z h p q r =
       set-each P (set (set l (3 * f) x) (3 * f + 1) y) (3 * f + 2) z (set-each P (set l (3 * f) x) (3 * f + 1) y (set-each P l (3 * f) x h p) q) r
 
-  -- before and behind the three nothing changes
-  pub triple-other : (l : List A) (f : ℕ) (x y z : A) (q : ℕ) → (q ≡ 3 * f → ⊥) → (q ≡ 3 * f + 1 → ⊥) → (q ≡ 3 * f + 2 → ⊥) → getD (triple l f x y z) q d ≡ getD l q d
-  triple-other l f x y z q n0 n1 n2 =
-      getD-set-other (set (set l (3 * f) x) (3 * f + 1) y) (3 * f + 2) q z d n2
-      ∙ getD-set-other (set l (3 * f) x) (3 * f + 1) q y d n1
-      ∙ getD-set-other l (3 * f) q x d n0
+  -- the places of the other vertices are as they were
+  pub triple-other : (l : List A) (f : ℕ) (x y z : A) (g a : ℕ) → a < 3 → (g ≡ f → ⊥) → getD (triple l f x y z) (3 * g + a) d ≡ getD l (3 * g + a) d
+  triple-other l f x y z g a h n =
+      getD-set-other (set (set l (3 * f) x) (3 * f + 1) y) (3 * f + 2) (3 * g + a) z d (λ e. n (omega arith))
+      ∙ getD-set-other (set l (3 * f) x) (3 * f + 1) (3 * g + a) y d (λ e. n (omega arith))
+      ∙ getD-set-other l (3 * f) (3 * g + a) x d (λ e. n (omega arith))
 
   pub triple-at : (l : List A) (f : ℕ) (x y z : A) (a : ℕ) → 3 * f + 2 < length l → a < 3 → getD (triple l f x y z) (3 * f + a) d ≡ getD (x ∷ y ∷ z ∷ []) a d
   triple-at l f x y z zero h k =
@@ -72,13 +83,3 @@ module _ {A : Type 0} (d : A) where
       ∙ getD-set-same (set l (3 * f) x) (3 * f + 1) y d (simp length-set (omega arith))
   triple-at l f x y z (suc (suc zero)) h k = getD-set-same (set (set l (3 * f) x) (3 * f + 1) y) (3 * f + 2) z d (simp length-set (omega arith))
   triple-at l f x y z (suc (suc (suc a))) h k = absurd (omega arith)
-
-  -- read by vertex and axis
-  pub triple-each : (l : List A) (f : ℕ) (x y z : A) (g a : ℕ) → 3 * f + 2 < length l → a < 3 → getD (triple l f x y z) (3 * g + a) d ≡ cond (eqb g f) (getD (x ∷ y ∷ z ∷ []) a d) (getD l (3 * g + a) d)
-  triple-each l f x y z g a h k = go (eqb g f) refl
-    where
-      go : (b : Bool) → eqb g f ≡ b → getD (triple l f x y z) (3 * g + a) d ≡ cond b (getD (x ∷ y ∷ z ∷ []) a d) (getD l (3 * g + a) d)
-      go true e = let p : g ≡ f = eqb-true g f e in rw p (triple-at l f x y z a h k)
-      go false e =
-          let n = eqb-false g f e in
-          triple-other l f x y z (3 * g + a) (λ p. n (omega arith)) (λ p. n (omega arith)) (λ p. n (omega arith))

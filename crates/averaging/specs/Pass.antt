@@ -1,10 +1,8 @@
 -- The pass over a table of cells: each child counts for its corners, with the sum of their split positions.
 use mathlib.Core.Path.{_≡_}
-use mathlib.Core.Bool.{cond}
 use mathlib.Core.List.{List, []}
 use Prim.Native.Nat.{ℕ, _+_, _*_, _/_, _≤_, _<_, _^_}
 use lib.ListN.{length, getD}
-use lib.Dec.{ltb}
 use lib.IntN.{ℤ, pos, _+ℤ_, natAbs}
 use Rattle.integers.specs.Range.{InRange}
 use Rattle.averaging.specs.Sums.{sumTo}
@@ -18,9 +16,9 @@ biased xs p = natAbs (getD xs p (pos 0) +ℤ pos (2 ^ 29))
 abbrev pub gatheredAt : List ℕ → ℕ → ℕ → ℕ
 gatheredAt gathered a u = getD gathered (3 * u + a) 0
 
--- the biased coordinate on axis a of corner u of the cell whose n corners stand from `at` on; 0 past the last corner
-unfoldable pub cornerCoordinate : ℕ → List ℕ → ℕ → List ℤ → ℕ → ℕ → ℕ
-cornerCoordinate n corners at xs a u = cond (ltb u n) (biased xs (3 * getD corners (at + u) 0 + a)) 0
+-- the biased coordinate on axis a of corner u of the cell whose corners stand from `at` on
+unfoldable pub cornerCoordinate : List ℕ → ℕ → List ℤ → ℕ → ℕ → ℕ
+cornerCoordinate corners at xs a u = biased xs (3 * getD corners (at + u) 0 + a)
 
 -- The split positions of all corners of a child, summed, in eighths: each of the parent's n corners u, at e u, has a weight.
 unfoldable pub weighed : ℕ → List ℕ → (ℕ → ℕ) → ℕ
@@ -44,7 +42,7 @@ cornerCount n corners = n * n * cellCount n corners
 -- the cells of a table, on axis a
 unfoldable pub tableStep : ℕ → List (List ℕ) → List ℕ → List ℤ → List ℕ → ℕ → ℕ → ℕ → Tally → Tally
 tableStep n weights corners xs fine d a =
-    repeat (cellCount n corners) (λ (c : ℕ). cellStep n weights (cornerCoordinate n corners (n * c) xs a) fine (n * n * c) d)
+    repeat (cellCount n corners) (λ (c : ℕ). cellStep n weights (cornerCoordinate corners (n * c) xs a) fine (n * n * c) d)
 
 -- ---- what the pass needs of its tables
 

@@ -46,7 +46,7 @@ pub fn vertex_at(table: &[u32], p: usize) -> usize
 // The biased coordinates of the n corners of cell number c, three for each corner.
 pub fn gather(corners: &[u32], n: usize, c: usize, xs: &[i32]) -> [u64; 24]
     requires { ⌜ Coarse n (c + 1) (now corners) (now xs) ⌝ }
-    ensures { λ r. ⌜ ((u a : ℕ) → a < 3 → gatheredAt r a u ≡ cornerCoordinate n (now (corners .entry)) (n * c) (now (xs .entry)) a u) ⌝ }
+    ensures { λ r. ⌜ ((u a : ℕ) → u < n → a < 3 → gatheredAt r a u ≡ cornerCoordinate (now (corners .entry)) (n * c) (now (xs .entry)) a u) ⌝ }
     ensures { λ r. ⌜ ((q : ℕ) → getD r q 0 < 2 ^ 30) ⌝ }
 {
     let at = n * c;

@@ -29,12 +29,25 @@ fn divisor_at(words: &[u32], vertex: usize) -> u64
     eights(words[2 * vertex]) * wide(words[2 * vertex + 1])
 }
 
+// Most divisors are powers of two, since a regular vertex has a valence of 2 to the power of its rank, and a shift is
+// quicker than a division.
+fn quotient(sum: u64, divisor: u64) -> u64
+    requires { ⌜ 0 < divisor ⌝ }
+    ensures { λ r. ⌜ r ≡ sum / divisor ⌝ }
+{
+    let zeros = u64::trailing_zeros(divisor);
+    if divisor == 1 << zeros {
+        return sum >> zeros;
+    }
+    sum / divisor
+}
+
 // The mean from a biased sum, rounded toward minus infinity.
 fn mean_of(sum: u64, divisor: u64) -> i32
     requires { ⌜ (0 < divisor) × (sum < divisor * 2 ^ 30) ⌝ }
     ensures { λ r. ⌜ pos (sum / divisor) ≡ r +ℤ pos (2 ^ 29) ⌝ }
 {
-    unbias(sum / divisor)
+    unbias(quotient(sum, divisor))
 }
 
 // The means of one vertex.

@@ -1,16 +1,14 @@
 -- `averaging::means::finish` meets its contract. The loop's invariant: the means of the vertices passed are stored, and the others' places are
 -- as they were. The measure is the vertices left. Assumes nothing.
-use mathlib.Core.Path.{_≡_, refl, sym, _∙_, subst}
-use mathlib.Core.Bool.{Bool, true, false}
+use mathlib.Core.Path.{_≡_, refl, _∙_}
 use Prim.Native.Nat.{ℕ, _+_, _*_, _-_, _≤_, _<_}
 use native.Mathlib.Omega.{arith}
 use borrow.Author.Needs.{needs}
-use borrow.Author.Tests.{eqb-true, eqb-false}
-use lib.Dec.{eqb}
 use lib.IntN.{ℤ, pos}
 use lib.ListN.{length, getD}
 use Rattle.averaging.specs.Tally.{tallyAt}
 use Rattle.averaging.specs.Pass.{MeanOf}
+use Rattle.averaging.proofs.Triples.{one-more}
 use Rattle.averaging.proofs.means.finish.Statement.{statement}
 use Rattle.averaging.proofs.means.finish.Tie as tie
 
@@ -22,17 +20,6 @@ Inv-loop n words longs out₀ f₀ out f =
 
 abbrev μ-loop : tie.MeasureT-loop
 μ-loop n words longs out₀ f₀ out f = n - f
-
--- one vertex more: what is known of it, and of those before it, whose places are unchanged
-one-more : (P : ℕ → ℤ → Type 0) (f : ℕ) (new old : ℕ → ℤ) → ((g : ℕ) → g < f → P g (old g)) → P f (new f) → ((g : ℕ) → (g ≡ f → ⊥) → new g ≡ old g) → (g : ℕ) → g < f + 1 → P g (new g)
-one-more P f new old below at same g h = go (eqb g f) refl
-  where
-    less : (g f : ℕ) → g < f + 1 → (g ≡ f → ⊥) → g < f
-    less g f h n = omega arith
-
-    go : (b : Bool) → eqb g f ≡ b → P g (new g)
-    go true e = subst (λ (g : ℕ). P g (new g)) (sym (eqb-true g f e)) at
-    go false e = let n = eqb-false g f e in subst (P g) (sym (same g n)) (below g (less g f h n))
 
 finish-at-requires : tie.Need-finish-at-requires Inv-loop μ-loop
 finish-at-requires c κs =

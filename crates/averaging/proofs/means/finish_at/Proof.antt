@@ -66,7 +66,7 @@ returns c =
       (
         λ axis h. subst (MeanOf (tallyAt w l axis v)) (sym (triple-at (pos 0) o v (x .result) (y .result) (z .result) axis (omega arith) h))
             (on-axes (pos 0) (λ (axis : ℕ) (z : ℤ). MeanOf (tallyAt w l axis v) z) (x .result) (y .result) (z .result) (mean w l v 0 (3 * v) _ (zero-at v) is (x .result) (x .ensures)) (mean w l v 1 (3 * v + 1) _ refl is (y .result) (y .ensures)) (mean w l v 2 (3 * v + 2) _ refl is (z .result) (z .ensures)) axis h),
-        λ axis f h n. triple-other (pos 0) o v (x .result) (y .result) (z .result) (3 * f + axis) (λ e. n (omega arith)) (λ e. n (omega arith)) (λ e. n (omega arith)),
+        λ axis f h n. triple-other (pos 0) o v (x .result) (y .result) (z .result) f axis h n,
       ),
     )
 

@@ -15,7 +15,7 @@ use Rattle.averaging.proofs.tallies.count_table.Tie as tie
 
 abbrev Inv-loop : tie.InvT-loop
 Inv-loop corners n weights xs fine d words₀ longs₀ k c₀ words longs c =
-    (c ≤ cellCount n corners) × Tallied (n * n * c) (λ (a : ℕ). repeat c (λ (c : ℕ). cellStep n weights (cornerCoordinate n corners (n * c) xs a) fine (n * n * c) d)) words₀ longs₀ words longs
+    (c ≤ cellCount n corners) × Tallied (n * n * c) (λ (a : ℕ). repeat c (λ (c : ℕ). cellStep n weights (cornerCoordinate corners (n * c) xs a) fine (n * n * c) d)) words₀ longs₀ words longs
 
 abbrev μ-loop : tie.MeasureT-loop
 μ-loop corners n weights xs fine d words₀ longs₀ k c₀ words longs c = cellCount n corners - c
@@ -46,18 +46,18 @@ loop-again c =
     let l = c .before .before .before .before .before .before .before .before .before .before .loop in
     let g = c .before .before .before .before .before .before .before .before .gather in
     let base = a .n * a .n * l .c in
-    let at : ℕ → ℕ → ℕ = cornerCoordinate (a .n) (a .corners .now) (a .n * l .c) (a .xs .now) in (
+    let at : ℕ → ℕ → ℕ = cornerCoordinate (a .corners .now) (a .n * l .c) (a .xs .now) in (
       omega arith,
-      tallied-again (λ (x c : ℕ). cellStep (a .n) (a .weights .now) (cornerCoordinate (a .n) (a .corners .now) (a .n * c) (a .xs .now) x) (a .fine .now) (a .n * a .n * c) (a .d)) (l .c) (omega arith) (l .inv .1)
+      tallied-again (λ (x c : ℕ). cellStep (a .n) (a .weights .now) (cornerCoordinate (a .corners .now) (a .n * c) (a .xs .now) x) (a .fine .now) (a .n * a .n * c) (a .d)) (l .c) (omega arith) (l .inv .1)
           (tallied-by (λ (x : ℕ). cellStep (a .n) (a .weights .now) (at x) (a .fine .now) base (a .d))
-          (λ x f h. cell-same (a .n) (a .weights .now) (gatheredAt (g .result) x) (at x) (a .fine .now) base (a .d) f (λ u k. g .ensures .0 u x h)) (c .before .before .before .before .count-cell .ensures)),
+          (λ x f h. cell-same (a .n) (a .weights .now) (gatheredAt (g .result) x) (at x) (a .fine .now) base (a .d) f (λ u k. g .ensures .0 u x k h)) (c .before .before .before .before .count-cell .ensures)),
     )
 
 returns : tie.Need-returns Inv-loop μ-loop
 unfolding tableStep
 returns c =
     let a = c .before .before .before .before .before .before .args in
-    tallied-end (λ (c : ℕ). a .n * a .n * c) (λ (x c : ℕ). cellStep (a .n) (a .weights .now) (cornerCoordinate (a .n) (a .corners .now) (a .n * c) (a .xs .now) x) (a .fine .now) (a .n * a .n * c) (a .d)) (omega arith) (c .before .loop .inv .1)
+    tallied-end (λ (c : ℕ). a .n * a .n * c) (λ (x c : ℕ). cellStep (a .n) (a .weights .now) (cornerCoordinate (a .corners .now) (a .n * c) (a .xs .now) x) (a .fine .now) (a .n * a .n * c) (a .d)) (omega arith) (c .before .loop .inv .1)
 
 pub count-table-spec : {M : Type 1} → statement M
 count-table-spec =
