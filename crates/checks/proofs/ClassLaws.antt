@@ -16,7 +16,7 @@ use Rattle.lists.proofs.Tables.{length-cut}
 use Rattle.lists.proofs.Once.{once-keep, length-same}
 use Rattle.lists.proofs.Distinct.{in-distinct, distinct-in, once-distinct}
 use Rattle.checks.specs.declared.classes.Walk.{Walk}
-use Rattle.checks.specs.declared.classes.Walk.the-variants.{Edges, Faces, Rings, Cells}
+use Rattle.checks.specs.declared.classes.Walk.the-variants.{Edges, Faces, Cells}
 use Rattle.checks.specs.Walk.{metIn}
 use Rattle.checks.specs.Classes.{walked, Size, squared, total, classOf, inClass}
 use Rattle.checks.proofs.WalkLaws.{met-fits}
@@ -24,31 +24,10 @@ use Rattle.checks.proofs.classes.Walk.{the-type}
 
 -- ---- what is walked
 
--- faces, told apart or not
-module _ (of : Walk) (o : OneOf (1 ∷ 2 ∷ []) (tagOf the-type of)) where
-  pub faces-walked : (k : ℕ) (hs qs ss : List ℕ) → walked of k hs qs ss ≡ metIn 2 hs qs ss
-  faces-walked k hs qs ss = go of o
-    where
-      go : (of : Walk) → OneOf (1 ∷ 2 ∷ []) (tagOf the-type of) → walked of k hs qs ss ≡ metIn 2 hs qs ss
-      go Edges o = absurd (miss (1 ∷ 2 ∷ []) 0 tt o)
-      go Faces o = refl
-      go Rings o = refl
-      go Cells o = absurd (miss (1 ∷ 2 ∷ []) 3 tt o)
-
-  pub faces-size : (k : ℕ) → Size of k → k ≡ 4
-  faces-size k h = go of o h
-    where
-      go : (of : Walk) → OneOf (1 ∷ 2 ∷ []) (tagOf the-type of) → Size of k → k ≡ 4
-      go Edges o h = absurd (miss (1 ∷ 2 ∷ []) 0 tt o)
-      go Faces o h = h
-      go Rings o h = h
-      go Cells o h = absurd (miss (1 ∷ 2 ∷ []) 3 tt o)
-
 -- at most 8 corners
 pub few-corners : (of : Walk) (k : ℕ) → Size of k → k ≤ 8
 few-corners Edges k h = omega arith
 few-corners Faces k h = omega arith
-few-corners Rings k h = omega arith
 few-corners Cells k h = h .1
 
 -- their count fits 64 bits, since the bytes of a slice fit 63
@@ -56,7 +35,6 @@ pub walked-fits : (of : Walk) (k : ℕ) (hs qs ss : List ℕ) → length hs * 4 
     → length (walked of k hs qs ss) < 2 ^ 64
 walked-fits Edges k hs qs ss a b c = met-fits 1 (lit< tt) hs qs ss (lit< tt) a b c
 walked-fits Faces k hs qs ss a b c = met-fits 2 (lit< tt) hs qs ss (lit< tt) a b c
-walked-fits Rings k hs qs ss a b c = met-fits 2 (lit< tt) hs qs ss (lit< tt) a b c
 walked-fits Cells k hs qs ss a b c = omega (arith, length-cut k hs, div-le-self (length hs) k)
 
 -- ---- the class is that of the corner set

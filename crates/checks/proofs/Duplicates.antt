@@ -22,7 +22,7 @@ use Rattle.soundness.proofs.Cells.{key-whole}
 use Rattle.numbering.specs.declared.parts.Parts.{Parts}
 use Rattle.numbering.specs.declared.parts.Parts.the-variants.{HexEdges, HexFaces, Hexes, QuadEdges, Quads, Segments, SegmentFaces, Points}
 use Rattle.numbering.specs.Parts.{kindOf, dimensionOf, placesOf, partCorners, cellCorners, partKeys, tableKeys}
-use Rattle.numbering.specs.Count.{edgeKeys, faceKeys}
+use Rattle.numbering.specs.Count.{edgeKeys}
 use Rattle.checks.specs.Walk.{partsOf, metIn}
 use Rattle.checks.proofs.WalkLaws.{length-parts, met-is}
 
@@ -117,20 +117,6 @@ edge-keys hs qs ss =
     rw (part-keys HexEdges hs, part-keys QuadEdges qs, part-keys Segments ss)
     (sym (ap (map keyOf) (met-is 1 (lit< tt) hs qs ss) ∙ map-append keyOf H (Q ++ S)
     ∙ ap (λ (l : List Key). map keyOf H ++ l) (map-append keyOf Q S)))
-
-module _ {A : Type 0} where
-  empty : (xs : List A) → length xs ≡ 0 → xs ≡ []
-  empty [] e = refl
-  empty (x ∷ xs) e = absurd (omega arith)
-
-pub face-keys : (hs qs ss : List ℕ) → faceKeys hs qs ≡ map keyOf (metIn 2 hs qs ss)
-unfolding faceKeys places byDimension
-face-keys hs qs ss =
-    let H = partsOf hex 2 hs in
-    let Q = partsOf quad 2 qs in
-    let none : partsOf segment 2 ss ≡ [] = empty (partsOf segment 2 ss) (length-parts segment 2 ss ∙ omega arith) in
-    rw (part-keys HexFaces hs, part-keys Quads qs)
-    (sym (ap (map keyOf) (met-is 2 (lit< tt) hs qs ss ∙ ap (λ (l : List (List ℕ)). H ++ (Q ++ l)) none ∙ ap (λ (l : List (List ℕ)). H ++ l) (append-nil Q)) ∙ map-append keyOf H Q))
 
 -- a cell has 1 to 8 corners
 pub some-corners : (of : Parts) → (0 < cellCorners of) × (cellCorners of ≤ 8)

@@ -18,7 +18,7 @@ use Rattle.lists.proofs.Keys.{same-eq, eq-same}
 use Rattle.soundness.specs.Across.{across}
 use Rattle.soundness.proofs.Checks.{Sized, mesh-sized}
 use Rattle.soundness.proofs.Across.{met-quad, mismatched-across}
-use Rattle.checks.specs.declared.classes.Walk.the-variants.{Rings}
+use Rattle.checks.specs.declared.classes.Walk.the-variants.{Faces}
 use Rattle.checks.specs.Walk.{metIn}
 use Rattle.checks.specs.Classes.{Agreeing, Apart}
 
@@ -34,7 +34,7 @@ module _ (t : Topology) (z : Sized t) (h₅ : repeatedCorner t ≡ false) where
   mismatched-in f g i j = mismatched-across f g (met-quad t z h₅ f i) (met-quad t z h₅ g j)
 
   -- what the walk of all faces found
-  pub apart-mismatched : Apart Rings (met t 2) → mismatchedFace t ≡ true
+  pub apart-mismatched : Apart Faces (met t 2) → mismatchedFace t ≡ true
   unfolding mismatchedFace
   apart-mismatched a =
       let f = a .one in
@@ -45,7 +45,7 @@ module _ (t : Topology) (z : Sized t) (h₅ : repeatedCorner t ≡ false) where
       ∙ both-and (same (keyOf f) (keyOf g)) (not (eqb (across f) (across g))) (eq-same (keyOf f) (keyOf g) (a .keys))
       (ap not (ne-eqb (across f) (across g) (a .tags)))))
 
-  pub agreeing-matched : {n : ℕ} → Agreeing Rings (met t 2) n → mismatchedFace t ≡ false
+  pub agreeing-matched : {n : ℕ} → Agreeing Faces (met t 2) n → mismatchedFace t ≡ false
   unfolding mismatchedFace
   agreeing-matched a =
       in-none (λ (f : List ℕ). any (mismatched f) (met t 2)) (met t 2)

@@ -1,15 +1,21 @@
 -- What the first checks let through. Assumes nothing.
-use mathlib.Core.Path.{_≡_, refl}
+use mathlib.Core.Path.{_≡_, refl, sym, _∙_}
 use mathlib.Core.Bool.{Bool, true, false}
+use mathlib.Core.List.{List, []}
 use Prim.Native.Nat.{ℕ, _/_, _≤_}
 use native.Mathlib.Omega.{arith}
 use lib.ListN.{length}
 use lib.Dec.{ltb, eqb}
 use borrow.Author.Tests.{ltb-false}
 use Rattle.rules.specs.Counts.{countsOf, outOfRange}
-use Rattle.rules.specs.Mesh.{Mesh, topology}
+use Rattle.rules.specs.Mesh.{Mesh, mesh, topology}
 use Rattle.rules.specs.Refusals.{check, partialEntry, countOutOfRange, coordinateOutOfRange, cornerOutOfRange, repeatedCorner, duplicateCell, mismatchedFace, isolatedVertex, tableChecks, meshChecks}
 use Rattle.lists.proofs.Tests.{or-neither}
+use Rattle.checks.specs.declared.Checked.{Checked}
+use Rattle.checks.specs.declared.by_classes.Faces.{Faces}
+use Rattle.checks.specs.declared.by_classes.Faces.the-variants.{Matching, Mismatched}
+use Rattle.checks.specs.Walk.{countIn}
+use Rattle.checks.specs.Checked.{FacesChecked, MeshChecked}
 
 -- 1 to 4 pass
 pub record TablesPass (m : Mesh) : Type 0 where
@@ -51,6 +57,19 @@ tables-refuse m h =
     go false false true d later h = refl
     go false false false true later h = refl
     go false false false false later h = absurd (h refl)
+
+-- what the checks answer, where they refuse
+pub refused-is : (m : Mesh) (r : Checked) {n : ℕ} → r .refusal ≡ n → (n ≡ 0 → ⊥) → n ≡ meshChecks m 0 → MeshChecked m r
+refused-is m r e h f = record { refusal = e ∙ f; faces = λ z. absurd (h (sym e ∙ z)) }
+
+-- check 7, where it passes and where it does not
+pub faces-match : (hs qs ss : List ℕ) (r : Faces) {n : ℕ} → r ≡ Matching n → FacesChecked hs qs ss r
+    → (mismatchedFace (topology (mesh [] hs qs ss [])) ≡ false) × (n ≡ countIn 2 hs qs ss)
+faces-match hs qs ss r e f = rw e at f
+
+pub faces-mismatch : (hs qs ss : List ℕ) (r : Faces) → r ≡ Mismatched → FacesChecked hs qs ss r
+    → mismatchedFace (topology (mesh [] hs qs ss [])) ≡ true
+faces-mismatch hs qs ss r e f = rw e at f
 
 -- "There are 1 to 1,000,000 vertices and at most 250,000 entries in each cell table."
 pub record Few (m : Mesh) : Type 0 where

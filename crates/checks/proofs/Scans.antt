@@ -1,15 +1,16 @@
--- A loop that goes through a list and stops at the first element that passes a test. Assumes nothing.
-use mathlib.Core.Path.{_≡_, refl, sym, _∙_}
+-- A loop that goes through a list and looks for an element that passes a test: it stops at the first, or goes to the end. Assumes nothing.
+use mathlib.Core.Path.{_≡_, refl, sym, ap, _∙_}
 use mathlib.Core.Bool.{Bool, true, false, _||_}
 use mathlib.Core.List.{List, [], _∷_}
 use Prim.Native.Nat.{ℕ, _+_, _<_, _≤_}
 use native.Mathlib.Nat.{zero-add}
 use native.Mathlib.Numerals.{add-one}
 use native.Mathlib.Omega.{arith}
-use lib.ListN.{length, drop, getD, drop-of-length-le}
-use lib.Seq.{drop-cons}
+use lib.ListN.{length, take, drop, getD, drop-of-length-le}
+use lib.Seq.{take-all, drop-cons}
 use Rattle.rules.specs.Lists.{any, repeats, upFrom}
 use Rattle.lists.proofs.Membership.{length-upFrom, getD-upFrom}
+use Rattle.lists.proofs.Tests.{any-turn}
 
 module _ {A : Type 0} where
   -- f is found by going through a list: p says of an element, and of those behind it, whether the search may stop there
@@ -65,3 +66,22 @@ module _ (p : ℕ → Bool) (n : ℕ) {r : Bool} {v : ℕ} (at : Scanning (any p
 
   pub range-end : n ≤ v → false ≡ r
   range-end h = scan-end (any-search p) at (rw (length-upFrom 0 n) h)
+
+-- ---- a loop that goes to the end
+
+module _ {A : Type 0} where
+  -- found among the first i
+  pub record Gathering (p : A → Bool) (l : List A) (found : Bool) (i : ℕ) : Type 0 where
+    pub within : i ≤ length l
+    pub so-far : found ≡ any p (take i l)
+
+  pub gather-start : (p : A → Bool) (l : List A) → Gathering p l false 0
+  unfolding any
+  gather-start p l = record { within = omega arith; so-far = refl }
+
+  pub gather-turn : {p : A → Bool} {l : List A} {found : Bool} {i : ℕ} (z : A) → Gathering p l found i → i < length l
+      → Gathering p l (found || p (getD l i z)) (i + 1)
+  gather-turn {p} {l} {found} {i} z g h = record { within = omega arith; so-far = rw (add-one i, any-turn p l i z h, g .so-far) }
+
+  pub gather-end : {p : A → Bool} {l : List A} {found : Bool} {i : ℕ} → Gathering p l found i → length l ≤ i → found ≡ any p l
+  gather-end {p} {l} {found} {i} g h = g .so-far ∙ ap (any p) (take-all i l h)

@@ -10,13 +10,13 @@ use lib.ListN.{length, getD, length-append, length-map, List·getD-append}
 use lib.Seq.{getD-append-add}
 use Rattle.rules.specs.Lists.{concatMap, cut, upFrom}
 use Rattle.rules.specs.Mesh.{Mesh, Kind, hex, quad, segment, point, corners, mesh, topology, whole, byDimension, places, placeOf}
-use Rattle.rules.specs.Split.{cornersAt, met}
+use Rattle.rules.specs.Split.{cornersAt, met, distinctParts}
 use Rattle.lists.specs.Membership.{In}
 use Rattle.lists.proofs.Membership.{in-append, in-map, in-concatMap, getD-in, getD-map, getD-upFrom}
 use Rattle.lists.proofs.Once.{length-concatMap}
 use Rattle.lists.proofs.Tables.{length-cut, cut-at}
 use Rattle.lists.proofs.Decide.{computed, decBoth, decEach, decNumber, decBelow}
-use Rattle.checks.specs.Walk.{partsOf, metIn}
+use Rattle.checks.specs.Walk.{partsOf, metIn, countIn}
 
 -- ---- an edge has 2 corners, a face 4, and they are the cell's
 
@@ -174,6 +174,11 @@ met-tables d h m = rw (no-points d h (cut 1 (m .points)), append-nil (partsOf se
 
 pub met-mesh : (d : ℕ) → 0 < d → (m : Mesh) → met (topology m) d ≡ metIn d (m .hexes) (m .quads) (m .segments)
 met-mesh d h m = met-tables d h m ∙ sym (met-tables d h (mesh [] (m .hexes) (m .quads) (m .segments) []))
+
+-- the count is that of the mesh
+pub count-mesh : (d : ℕ) → 0 < d → (m : Mesh) → countIn d (m .hexes) (m .quads) (m .segments) ≡ length (distinctParts (topology m) d)
+unfolding distinctParts
+count-mesh d h m = rw (met-mesh d h m)
 
 module _ (d : ℕ) (h : 0 < d) (hs qs ss : List ℕ) where
   abbrev H : List (List ℕ)

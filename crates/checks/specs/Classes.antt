@@ -11,7 +11,7 @@ use Rattle.soundness.specs.Across.{across}
 use Rattle.checks.specs.declared.tagged.Met.{Met}
 use Rattle.checks.specs.declared.tagged.Met.the-variants.{Agrees, Differs, Full}
 use Rattle.checks.specs.declared.classes.Walk.{Walk}
-use Rattle.checks.specs.declared.classes.Walk.the-variants.{Edges, Faces, Rings, Cells}
+use Rattle.checks.specs.declared.classes.Walk.the-variants.{Edges, Faces, Cells}
 use Rattle.checks.specs.declared.classes.Verdict.{Verdict}
 use Rattle.checks.specs.declared.classes.Verdict.the-variants.{Fails, Passes, Unknown}
 use Rattle.checks.specs.Walk.{metIn}
@@ -23,21 +23,18 @@ use Rattle.checks.specs.Tagged.{TagMet}
 abbrev pub walked : Walk → ℕ → List ℕ → List ℕ → List ℕ → List (List ℕ)
 walked Edges k hexes quads segments = metIn 1 hexes quads segments
 walked Faces k hexes quads segments = metIn 2 hexes quads segments
-walked Rings k hexes quads segments = metIn 2 hexes quads segments
 walked Cells k cells _ _ = cut k cells
 
 -- each has k corners
 abbrev pub Size : Walk → ℕ → Type 0
 Size Edges k = k ≡ 2
 Size Faces k = k ≡ 4
-Size Rings k = k ≡ 4
 Size Cells k = (0 < k) × (k ≤ 8)
 
 -- what tells two apart that have one corner set: of faces that go round, the corner across the least
 abbrev pub tagFor : Walk → List ℕ → ℕ
 tagFor Edges p = 0
-tagFor Faces p = 0
-tagFor Rings p = across p
+tagFor Faces p = across p
 tagFor Cells p = 0
 
 -- ---- the classes

@@ -9,3 +9,5 @@ pub mod Marked
 pub mod Tagged
 -- Classes: edges, faces or cells in classes.
 pub mod Classes
+-- Checked: what the checks of a mesh find.
+pub mod Checked

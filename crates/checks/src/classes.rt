@@ -13,11 +13,10 @@ ghost use Rattle.rules.specs.Lists.{keep};
 ghost use Rattle.checks.specs.Tagged.{Tagged};
 ghost use Rattle.checks.specs.Classes.{walked, Size, tagFor, squared, classOf, inClass, ClassMet, Found};
 
-// What is walked: the edges of three tables; their faces; their faces, told apart by how they go round; the cells of the first table.
+// What is walked: the edges of three tables; their faces, told apart by how they go round; the cells of the first table.
 pub enum Walk {
     Edges,
     Faces,
-    Rings,
     Cells,
 }
 
@@ -35,7 +34,7 @@ fn count_of(of: Walk, k: usize, hexes: &[u32], quads: &[u32], segments: &[u32]) 
 {
     match of {
         Walk::Edges => parts::part_count(1, hexes, quads, segments),
-        Walk::Faces | Walk::Rings => parts::part_count(2, hexes, quads, segments),
+        Walk::Faces => parts::part_count(2, hexes, quads, segments),
         Walk::Cells => hexes.len() / k,
     }
 }
@@ -52,7 +51,7 @@ fn read(of: Walk, hexes: &[u32], quads: &[u32], segments: &[u32], i: usize, corn
             let part = parts::part_at(1, hexes, quads, segments, i);
             memory::copy_u32(&part[..2], corners);
         }
-        Walk::Faces | Walk::Rings => {
+        Walk::Faces => {
             let part = parts::part_at(2, hexes, quads, segments, i);
             memory::copy_u32(&part, corners);
         }
@@ -95,8 +94,8 @@ fn tag_of(of: Walk, corners: &[u32]) -> u32
     ensures { λ r. ⌜ r ≡ tagFor of (now (corners .entry)) ⌝ }
 {
     match of {
-        Walk::Rings => faces::across([corners[0], corners[1], corners[2], corners[3]]),
-        Walk::Edges | Walk::Faces | Walk::Cells => 0,
+        Walk::Faces => faces::across([corners[0], corners[1], corners[2], corners[3]]),
+        Walk::Edges | Walk::Cells => 0,
     }
 }
 

@@ -16,12 +16,14 @@ ghost use mathlib.Core.Bool.{false};
 ghost use mathlib.Core.List.{[], map};
 ghost use lib.Dec.{eqb};
 ghost use lib.ListN.{length};
-ghost use Rattle.rules.specs.Lists.{any, repeats, cut, keyOf, same, distinct};
+ghost use Rattle.rules.specs.Lists.{any, repeats, cut, keyOf, same};
 ghost use Rattle.rules.specs.Mesh.{mesh, topology};
+ghost use Rattle.rules.specs.Split.{faces};
 ghost use Rattle.rules.specs.Counts.{sizes};
-ghost use Rattle.rules.specs.Refusals.{partialEntry, countOutOfRange, cornerOutOfRange, repeatedCorner, duplicateCell, isolatedVertex, tableChecks, meshChecks};
+ghost use Rattle.rules.specs.Refusals.{partialEntry, countOutOfRange, cornerOutOfRange, repeatedCorner, duplicateCell, isolatedVertex, tableChecks};
 ghost use Rattle.numbering.specs.Parts.{partCorners, cellCorners};
-ghost use Rattle.checks.specs.Walk.{metIn};
+ghost use Rattle.checks.specs.Walk.{countIn};
+ghost use Rattle.checks.specs.Checked.{MeshChecked};
 
 // Checks 6 and 7 and the counts of parts, class by class.
 pub mod by_classes;
@@ -41,6 +43,13 @@ pub mod parts;
 pub mod tables;
 // A table of keys with tags.
 pub mod tagged;
+
+// What the checks 1 to 8 find of a mesh: the number of the first that fails, 0 where none does; and, of a mesh that passes, how many faces
+// it has, since check 7 meets them all.
+pub struct Checked {
+    pub refusal: u32,
+    pub faces: usize,
+}
 
 // Whether two cells of a table have one corner set; the parts are the cells themselves.
 fn has_duplicate(words: &mut [u32], of: Parts, cells: &[u32]) -> bool
@@ -100,58 +109,66 @@ fn has_isolated_vertex(
     pairwise::has_isolated_vertex(n as u32, hexes, quads, segments, points)
 }
 
-// 5 to 8 in order, of a mesh that passes 1 to 4.
-fn cell_refusal(
-    words: &mut [u32],
-    xs: &[i32],
-    hexes: &[u32],
-    quads: &[u32],
-    segments: &[u32],
-    points: &[u32],
-) -> u32
-    requires { ⌜ tableChecks (mesh (now xs) (now hexes) (now quads) (now segments) (now points)) 0 ≡ 0 ⌝ }
-    ensures { λ r.
-        ⌜ r ≡ meshChecks (mesh (now (xs .entry)) (now (hexes .entry)) (now (quads .entry)) (now (segments .entry)) (now (points .entry))) 0 ⌝ }
+// A mesh that is refused: its faces are not asked for.
+fn refused(refusal: u32) -> Checked
+    ensures { λ r. ⌜ r .refusal ≡ refusal ⌝ }
 {
-    if cells::has_repeated_corner(xs, hexes, quads, segments, points) {
-        return 5;
-    }
-    if has_duplicate_cell(words, xs, hexes, quads, segments, points) {
-        return 6;
-    }
-    // 7, document 01: twisted face.
-    if by_classes::has_mismatched_face(words, hexes, quads, segments) {
-        return 7;
-    }
-    if has_isolated_vertex(words, xs, hexes, quads, segments, points) {
-        return 8;
-    }
-    0
+    Checked { refusal, faces: 0 }
 }
 
-// 1 to 8 in order: the number of the first check that fails, 0 where none does.
-pub fn mesh_refusal(
+// 5 to 8 in order, of a mesh that passes 1 to 4.
+fn check_cells(
+    words: &mut [u32],
+    xs: &[i32],
+    hexes: &[u32],
+    quads: &[u32],
+    segments: &[u32],
+    points: &[u32],
+) -> Checked
+    requires { ⌜ tableChecks (mesh (now xs) (now hexes) (now quads) (now segments) (now points)) 0 ≡ 0 ⌝ }
+    ensures { λ r.
+        ⌜ MeshChecked (mesh (now (xs .entry)) (now (hexes .entry)) (now (quads .entry)) (now (segments .entry)) (now (points .entry))) r ⌝ }
+{
+    if cells::has_repeated_corner(xs, hexes, quads, segments, points) {
+        return refused(5);
+    }
+    if has_duplicate_cell(words, xs, hexes, quads, segments, points) {
+        return refused(6);
+    }
+    // 7, document 01: twisted face.
+    let met = by_classes::check_faces(words, hexes, quads, segments);
+    let by_classes::Faces::Matching(faces) = met else {
+        return refused(7);
+    };
+    if has_isolated_vertex(words, xs, hexes, quads, segments, points) {
+        return refused(8);
+    }
+    Checked { refusal: 0, faces }
+}
+
+// 1 to 8 in order.
+pub fn check_mesh(
     xs: &[i32],
     hexes: &[u32],
     quads: &[u32],
     segments: &[u32],
     points: &[u32],
     words: &mut [u32],
-) -> u32
+) -> Checked
     ensures { λ r.
-        ⌜ r ≡ meshChecks (mesh (now (xs .entry)) (now (hexes .entry)) (now (quads .entry)) (now (segments .entry)) (now (points .entry))) 0 ⌝ }
+        ⌜ MeshChecked (mesh (now (xs .entry)) (now (hexes .entry)) (now (quads .entry)) (now (segments .entry)) (now (points .entry))) r ⌝ }
 {
     let refusal = tables::table_refusal(xs, hexes, quads, segments, points);
     if refusal != 0 {
-        return refusal;
+        return refused(refusal);
     }
-    cell_refusal(words, xs, hexes, quads, segments, points)
+    check_cells(words, xs, hexes, quads, segments, points)
 }
 
 // How many edges there are.
 fn edge_count(words: &mut [u32], hexes: &[u32], quads: &[u32], segments: &[u32]) -> usize
     requires { ⌜ repeatedCorner (topology (mesh [] (now hexes) (now quads) (now segments) [])) ≡ false ⌝ }
-    ensures { λ r. ⌜ r ≡ length (distinct (map keyOf (metIn 1 (now (hexes .entry)) (now (quads .entry)) (now (segments .entry))))) ⌝ }
+    ensures { λ r. ⌜ r ≡ countIn 1 (now (hexes .entry)) (now (quads .entry)) (now (segments .entry)) ⌝ }
 {
     let tally = count::count_edges(words, hexes, quads, segments);
     match tally {
@@ -160,37 +177,26 @@ fn edge_count(words: &mut [u32], hexes: &[u32], quads: &[u32], segments: &[u32])
     }
 }
 
-// How many faces there are.
-fn face_count(words: &mut [u32], hexes: &[u32], quads: &[u32], segments: &[u32]) -> usize
-    requires { ⌜ repeatedCorner (topology (mesh [] (now hexes) (now quads) (now segments) [])) ≡ false ⌝ }
-    ensures { λ r. ⌜ r ≡ length (distinct (map keyOf (metIn 2 (now (hexes .entry)) (now (quads .entry)) (now (segments .entry))))) ⌝ }
-{
-    let tally = count::count_faces(words, hexes, quads);
-    match tally {
-        Tally::Keys(n) => n,
-        Tally::Full => by_classes::face_count(words, hexes, quads, segments),
-    }
-}
-
-// The sizes of a mesh whose cells name no corner twice: what its finished counts follow from.
+// The sizes of a mesh whose cells name no corner twice and whose faces are counted: what its finished counts follow from.
 pub fn mesh_sizes(
     xs: &[i32],
     hexes: &[u32],
     quads: &[u32],
     segments: &[u32],
     points: &[u32],
+    face_count: usize,
     words: &mut [u32],
 ) -> Sizes
     requires { ⌜ repeatedCorner (topology (mesh (now xs) (now hexes) (now quads) (now segments) (now points))) ≡ false ⌝ }
+    requires { ⌜ «face_count» ≡ length (faces (topology (mesh (now xs) (now hexes) (now quads) (now segments) (now points)))) ⌝ }
     ensures { λ r.
         ⌜ r ≡ sizes (topology (mesh (now (xs .entry)) (now (hexes .entry)) (now (quads .entry)) (now (segments .entry)) (now (points .entry)))) ⌝ }
 {
     let edges = edge_count(words, hexes, quads, segments);
-    let faces = face_count(words, hexes, quads, segments);
     Sizes {
         vertices: (xs.len() / 3) as u64,
         edges: edges as u64,
-        faces: faces as u64,
+        faces: face_count as u64,
         hexes: (hexes.len() / 8) as u64,
         quads: (quads.len() / 4) as u64,
         segments: (segments.len() / 2) as u64,

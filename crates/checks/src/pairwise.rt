@@ -8,11 +8,11 @@ ghost use mathlib.Core.List.{[], map};
 ghost use Prim.Native.Nat.{_+_, _<_};
 ghost use lib.Dec.{eqb};
 ghost use lib.ListN.{length, getD, take, drop};
-ghost use Rattle.rules.specs.Lists.{any, repeats, cut, upFrom, keyOf, same, distinct};
+ghost use Rattle.rules.specs.Lists.{any, repeats, cut, upFrom, keyOf, same};
 ghost use Rattle.rules.specs.Mesh.{mesh, topology};
 ghost use Rattle.rules.specs.Refusals.{repeatedCorner, mismatched, mismatchedFace};
 ghost use Rattle.checks.specs.Held.{heldIn, isolatedIn};
-ghost use Rattle.checks.specs.Walk.{metIn};
+ghost use Rattle.checks.specs.Walk.{metIn, countIn};
 
 // Whether two cells have one corner set. Neither names a corner twice.
 pub fn same_corners(a: &[u32], b: &[u32]) -> bool
@@ -116,7 +116,7 @@ fn is_met_before(d: usize, hexes: &[u32], quads: &[u32], segments: &[u32], i: us
 pub fn count_distinct(d: usize, hexes: &[u32], quads: &[u32], segments: &[u32]) -> usize
     requires { ⌜ (0 < d) × (d < 3) ⌝ }
     requires { ⌜ repeatedCorner (topology (mesh [] (now hexes) (now quads) (now segments) [])) ≡ false ⌝ }
-    ensures { λ r. ⌜ r ≡ length (distinct (map keyOf (metIn d (now (hexes .entry)) (now (quads .entry)) (now (segments .entry))))) ⌝ }
+    ensures { λ r. ⌜ r ≡ countIn d (now (hexes .entry)) (now (quads .entry)) (now (segments .entry)) ⌝ }
 {
     let n = parts::part_count(d, hexes, quads, segments);
     let mut count = 0;

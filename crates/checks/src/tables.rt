@@ -46,32 +46,30 @@ pub fn is_outside(z: i32) -> bool
     z < -536870912 || 536870911 < z
 }
 
-// 3.
+// 3. The loop goes to the end whatever it finds: so the compiler can take many coordinates at a time.
 pub fn has_coordinate_out_of_range(xs: &[i32]) -> bool
     ensures { λ r. ⌜ r ≡ any outside (now (xs .entry)) ⌝ }
 {
+    let mut found = false;
     let mut i = 0;
     while i < xs.len() {
-        if is_outside(xs[i]) {
-            return true;
-        }
+        found = found | is_outside(xs[i]);
         i += 1;
     }
-    false
+    found
 }
 
-// Some corner of a table is not below n.
+// Some corner of a table is not below n. This loop goes to the end as well.
 pub fn reaches(n: usize, table: &[u32]) -> bool
     ensures { λ r. ⌜ r ≡ any (leb n) (now (table .entry)) ⌝ }
 {
+    let mut found = false;
     let mut i = 0;
     while i < table.len() {
-        if n <= table[i] as usize {
-            return true;
-        }
+        found = found | (n <= table[i] as usize);
         i += 1;
     }
-    false
+    found
 }
 
 // 4, document 01: unknown corner.

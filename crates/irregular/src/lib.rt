@@ -48,7 +48,8 @@ pub fn irregular_count(
         ⌜ r ≡ irregularAnswer (mesh (now (xs .entry)) (now (hexes .entry)) (now (quads .entry)) (now (segments .entry)) (now (points .entry))) ⌝ }
     ensures { λ _. ⌜ now (words .exit) ≡ cleared (now (words .entry)) ⌝ }
 {
-    let refusal = checks::mesh_refusal(xs, hexes, quads, segments, points, words);
+    let checked = checks::check_mesh(xs, hexes, quads, segments, points, words);
+    let refusal = checked.refusal;
     if refusal != 0 {
         memory::clear_u32(words);
         return CountAnswer { refusal, count: 0 };

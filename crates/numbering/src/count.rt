@@ -1,4 +1,4 @@
-// How many distinct edges, faces and corner sets there are, with whatever memory is lent.
+// How many distinct edges and corner sets there are, with whatever memory is lent.
 use crate::parts;
 use crate::table;
 ghost use mathlib.Core.Path.{_≡_};
@@ -6,7 +6,7 @@ ghost use Prim.Native.Nat.{_+_, _*_, _^_, _≤_, _<_};
 ghost use lib.ListN.{length};
 ghost use Rattle.numbering.specs.Table.{Table};
 ghost use Rattle.numbering.specs.Parts.{partCorners, tableKeys};
-ghost use Rattle.numbering.specs.Count.{CountOf, edgeKeys, faceKeys};
+ghost use Rattle.numbering.specs.Count.{CountOf, edgeKeys};
 
 // The lesser of two numbers.
 fn least(x: usize, y: usize) -> usize
@@ -67,23 +67,6 @@ pub fn count_edges(w: &mut [u32], hexes: &[u32], quads: &[u32], segments: &[u32]
         return parts::Tally::Full;
     };
     parts::meet_table(w, room, m, parts::Parts::Segments, segments, &mut key)
-}
-
-// The faces of a mesh.
-pub fn count_faces(w: &mut [u32], hexes: &[u32], quads: &[u32]) -> parts::Tally
-    ensures { λ r. ⌜ CountOf (faceKeys (now (hexes .entry)) (now (quads .entry))) r ⌝ }
-{
-    if w.len() == 0 {
-        return parts::Tally::Full;
-    }
-    let most = parts_in(parts::Parts::HexFaces, hexes) + parts_in(parts::Parts::Quads, quads);
-    let room = prepare_for(w, 4, most);
-    let mut key = [0u32; 4];
-    let by_hexes = parts::meet_table(w, room, 0, parts::Parts::HexFaces, hexes, &mut key);
-    let parts::Tally::Keys(n) = by_hexes else {
-        return parts::Tally::Full;
-    };
-    parts::meet_table(w, room, n, parts::Parts::Quads, quads, &mut key)
 }
 
 // The parts of the cells of one table; `key` has room for the corners of a part. With cells as parts: how many corner sets they have.

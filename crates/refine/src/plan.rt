@@ -68,14 +68,15 @@ pub fn decide(
 ) -> Plan
     ensures { λ r. ⌜ Planned (mesh (now (xs .entry)) (now (hs .entry)) (now (qs .entry)) (now (ss .entry)) (now (ps .entry))) rounds lent r ⌝ }
 {
-    let refusal = checks::mesh_refusal(xs, hs, qs, ss, ps, words);
+    let checked = checks::check_mesh(xs, hs, qs, ss, ps, words);
+    let refusal = checked.refusal;
     if refusal != 0 {
         return refused(refusal);
     }
     if 8 < rounds {
         return refused(9);
     }
-    let start = checks::mesh_sizes(xs, hs, qs, ss, ps, words);
+    let start = checks::mesh_sizes(xs, hs, qs, ss, ps, checked.faces, words);
     let finished = counting::sizes_after(rounds, start);
     if counting::out_of_range(finished) {
         return refused(10);

@@ -33,8 +33,8 @@ returns c =
     let i = z .before .before in
     let r = i .before .before .before in
     let s = r .before .before .before .before .before .before .before in (
-      refused (meshOf s) (r .mesh-refusal .result) (r .mesh-refusal .ensures) (i .if1 .taken),
-      z .clear-u32 .ensures ∙ ap (λ (n : ℕ). replicate n 0) (r .mesh-refusal .kept .1 .1 .1 .1 .1 .0),
+      refused (meshOf s) (r .check-mesh .result .refusal) (r .check-mesh .ensures .refusal) (i .if1 .taken),
+      z .clear-u32 .ensures ∙ ap (λ (n : ℕ). replicate n 0) (r .check-mesh .kept .1 .1 .1 .1 .1 .0),
     )
 
 returns-2 : tie.Need-returns-2
@@ -44,8 +44,8 @@ returns-2 c =
     let i = n .before .before in
     let r = i .before .before .before in
     let s = r .before .before .before .before .before .before .before in (
-      answered (meshOf s) (n .count .result) (sym (r .mesh-refusal .ensures) ∙ i .if1 .left) (n .count .ensures),
-      z .clear-u322 .ensures ∙ ap (λ (n : ℕ). replicate n 0) (n .count .kept .1 .1 .1 .1 .1 .0 ∙ r .mesh-refusal .kept .1 .1 .1 .1 .1 .0),
+      answered (meshOf s) (n .count .result) (sym (r .check-mesh .ensures .refusal) ∙ i .if1 .left) (n .count .ensures),
+      z .clear-u322 .ensures ∙ ap (λ (n : ℕ). replicate n 0) (n .count .kept .1 .1 .1 .1 .1 .0 ∙ r .check-mesh .kept .1 .1 .1 .1 .1 .0),
     )
 
 pub irregular-count-spec : {M : Type 1} → statement M

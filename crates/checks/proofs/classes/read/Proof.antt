@@ -1,5 +1,5 @@
 -- `checks::classes::read` meets its contract. Assumes nothing.
-use mathlib.Core.Path.{_≡_, sym, ap, _∙_}
+use mathlib.Core.Path.{_≡_, sym, _∙_}
 use mathlib.Core.List.{List, []}
 use Prim.Native.Nat.{ℕ, _+_, _*_, _≤_, _<_}
 use native.Mathlib.Omega.{arith}
@@ -11,9 +11,6 @@ use Rattle.rules.specs.Lists.{cut, overwritten}
 use Rattle.lists.proofs.Membership.{getD-in}
 use Rattle.lists.proofs.Tables.{length-entry}
 use Rattle.memory.proofs.Stores.{sets-front, sets-whole}
-use Rattle.checks.specs.Walk.{metIn}
-use Rattle.checks.specs.Classes.{walked}
-use Rattle.checks.proofs.ClassLaws.{faces-walked, faces-size}
 use Rattle.checks.proofs.Slices.{entry-within, entry-part}
 use Rattle.checks.proofs.classes.read.Statement.{statement}
 use Rattle.checks.proofs.classes.read.Tie as tie
@@ -43,40 +40,32 @@ returns c =
 
 -- ---- faces
 
-four : (c : tie.At-match-keys2) → length (c .before .before .before .before .before .args .corners .now) ≡ 4
-four c = let s = c .before .before .before .before .before in faces-size (s .args .of) (c .match .keys2) (length (s .args .corners .now)) (s .pre .0)
-
-all : (c : tie.At-match-keys2) →
-    let a = c .before .before .before .before .before .args in
-    walked (a .of) (length (a .corners .now)) (a .hexes .now) (a .quads .now) (a .segments .now)
-    ≡ metIn 2 (a .hexes .now) (a .quads .now) (a .segments .now)
-all c =
-    let a = c .before .before .before .before .before .args in
-    faces-walked (a .of) (c .match .keys2) (length (a .corners .now)) (a .hexes .now) (a .quads .now) (a .segments .now)
+four : (c : tie.After-enum-told2) → length (c .before .before .before .before .before .before .args .corners .now) ≡ 4
+four c = rw (c .enum-told2 .given .1) at (c .before .before .before .before .before .before .pre .0)
 
 part-at-requires-2 : tie.Need-part-at-requires-2
-part-at-requires-2 c κs = ((lit< tt, lit< tt), rw (all c) at (c .before .before .before .before .before .pre .1))
+part-at-requires-2 c κs = ((lit< tt, lit< tt), rw (c .enum-told2 .given .1) at (c .before .before .before .before .before .before .pre .1))
 
 returns-2 : tie.Need-returns-2
 returns-2 c =
     let p = c .before .before .before .before .before in
-    let m = p .before in
-    let a = m .before .before .before .before .before .args in
+    let e = p .before in
+    let a = e .before .before .before .before .before .before .args in
     let l : length (p .part-at2 .result) ≡ 4 = omega (arith, p .part-at2 .ok) in
-    c .before .before .copy-u322 .ensures
-    ∙ whole (a .corners .now) (p .part-at2 .result) (l ∙ sym (four m))
+    rw (e .enum-told2 .given .1)
+    (c .before .before .copy-u322 .ensures
+    ∙ whole (a .corners .now) (p .part-at2 .result) (l ∙ sym (four e))
     ∙ sym (take-all 4 (p .part-at2 .result) (omega arith))
-    ∙ p .part-at2 .ensures
-    ∙ ap (λ (l : List (List ℕ)). getD l (a .i) []) (sym (all m))
+    ∙ p .part-at2 .ensures)
 
 -- ---- cells
 
-listed : (c : tie.After-enum-told2) →
+listed : (c : tie.After-enum-told3) →
     let a = c .before .before .before .before .before .before .args in
     a .i < length (cut (length (a .corners .now)) (a .hexes .now))
-listed c = rw (c .enum-told2 .given .1) at (c .before .before .before .before .before .before .pre .1)
+listed c = rw (c .enum-told3 .given .1) at (c .before .before .before .before .before .before .pre .1)
 
-within : (c : tie.After-enum-told2) →
+within : (c : tie.After-enum-told3) →
     let a = c .before .before .before .before .before .before .args in
     length (a .corners .now) * a .i + length (a .corners .now) ≤ length (a .hexes .now)
 within c =
@@ -92,7 +81,7 @@ returns-3 c =
     let cell = getD (cut k cells) (s .args .i) [] in
     let part = entry-part k (s .args .i) cells (listed e) in
     let size = length-entry k cells cell (getD-in (cut k cells) (s .args .i) [] (listed e)) in
-    rw (e .enum-told2 .given .1) (rw part at (c .before .before .copy-u323 .ensures) ∙ whole (s .args .corners .now) cell size)
+    rw (e .enum-told3 .given .1) (rw part at (c .before .before .copy-u323 .ensures) ∙ whole (s .args .corners .now) cell size)
 
 pub read-spec : {M : Type 1} → statement M
 read-spec =
@@ -103,6 +92,7 @@ read-spec =
     (λ c. search needs)
     (λ c. sym (pair (c .before)))
     (λ c κs. omega (arith, pair (c .before .before), two (c .before .before .before)))
+    (λ c. search needs)
     part-at-requires-2
     (λ c. search needs)
     (λ c κs. omega (arith, four (c .before .before .before)))

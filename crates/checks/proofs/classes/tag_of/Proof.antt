@@ -9,7 +9,7 @@ use borrow.Author.Needs.{needs}
 use lib.ListN.{length}
 use Rattle.soundness.specs.Across.{across}
 use Rattle.checks.specs.declared.classes.Walk.{Walk}
-use Rattle.checks.specs.declared.classes.Walk.the-variants.{Edges, Faces, Rings, Cells}
+use Rattle.checks.specs.declared.classes.Walk.the-variants.{Edges, Faces, Cells}
 use Rattle.checks.specs.Classes.{tagFor}
 use Rattle.checks.proofs.classes.Walk.{the-type}
 use Rattle.checks.proofs.classes.tag_of.Statement.{statement}
@@ -18,10 +18,9 @@ use Rattle.checks.proofs.classes.tag_of.Tie as tie
 four : (c : tie.After-enum-told) → length (c .before .before .before .args .corners .now) ≡ 4
 four c = rw (c .enum-told .given .1) at (c .before .before .before .pre)
 
-none : (of : Walk) → OneOf (0 ∷ 1 ∷ 3 ∷ []) (tagOf the-type of) → (p : List ℕ) → 0 ≡ tagFor of p
+none : (of : Walk) → OneOf (0 ∷ 2 ∷ []) (tagOf the-type of) → (p : List ℕ) → 0 ≡ tagFor of p
 none Edges k p = refl
-none Faces k p = refl
-none Rings k p = absurd (miss (0 ∷ 1 ∷ 3 ∷ []) 2 tt k)
+none Faces k p = absurd (miss (0 ∷ 2 ∷ []) 1 tt k)
 none Cells k p = refl
 
 returns : tie.Need-returns

@@ -21,14 +21,14 @@ abbrev start : tie.Else1 → tie.Start
 start e = e .before .before .before .before .before .before .before .before .before .before
 
 passed : (e : tie.Else1) → Accepted (given (start e))
-passed e = checks-accept (given (start e)) (sym (e .before .before .before .mesh-refusal .ensures) ∙ e .if1 .left)
+passed e = checks-accept (given (start e)) (sym (e .before .before .before .check-mesh .ensures .refusal) ∙ e .if1 .left)
 
 returns : tie.Need-returns
 returns c =
     let r = c .before .before .before .before in
     let s = c .before .before .before .before .before .before .before .before .before .before .before in
-    planned-refused (given s) (s .args .rounds) (s .args .lent) (c .refused .result) (r .mesh-refusal .result) (c .refused .ensures) (c .before .if1 .taken)
-    (refusal-mesh (given s) (s .args .rounds) _ (r .mesh-refusal .result) (r .mesh-refusal .ensures) (c .before .if1 .taken))
+    planned-refused (given s) (s .args .rounds) (s .args .lent) (c .refused .result) (r .check-mesh .result .refusal) (c .refused .ensures) (c .before .if1 .taken)
+    (refusal-mesh (given s) (s .args .rounds) _ (r .check-mesh .result .refusal) (r .check-mesh .ensures .refusal) (c .before .if1 .taken))
 
 returns-2 : tie.Need-returns-2
 returns-2 c =
@@ -39,7 +39,7 @@ returns-2 c =
 mesh-sizes-requires : tie.Need-mesh-sizes-requires
 mesh-sizes-requires c κs =
     let e = c .before .before in
-    no-repeated-corner _ (passed e .sound)
+    (no-repeated-corner _ (passed e .sound), e .before .before .before .check-mesh .ensures .faces (e .if1 .left))
 
 sizes-after-requires : tie.Need-sizes-after-requires
 sizes-after-requires c κs =
@@ -62,7 +62,7 @@ same-length-4 : tie.Need-same-length-4
 same-length-4 c =
     let z = c .before .before .before .before .before .before .before .before in
     let e = z .before .before .before in
-    z .mesh-sizes .kept .1 .1 .1 .1 .1 .0 ∙ e .before .before .before .mesh-refusal .kept .1 .1 .1 .1 .1 .0
+    z .mesh-sizes .kept .1 .1 .1 .1 .1 .1 .0 ∙ e .before .before .before .check-mesh .kept .1 .1 .1 .1 .1 .0
 
 returns-4 : tie.Need-returns-4
 returns-4 c =
