@@ -3,10 +3,10 @@
 // Rests on `numbering` (tables of keys in lent memory) and on the laws of `lists` and `soundness`. Promises: each check is an equation with
 // its test of `rules`, and the first that fails is the refusal. Checks 6 to 8 and the sizes take lent numbers, and the answer never depends
 // on how many there are. They are near-linear with `1 + max(V, 10 H, 6 Q, 4 S, 3 P, 7 (6 H + Q))` numbers, for V vertices, H hexes, Q quads,
-// S segments and P points, and the sizes with `1 + max(4 (12 H + 4 Q + S), 6 (6 H + Q))`; fewer are enough where cells share parts. With
-// k times fewer, checks 6 and 7 and the sizes look at the keys class by class, in about k passes where the classes come out even. With less
-// than about a 1000th, or with none, they compare each cell or part with each other one; so does check 8 with less than V. What the lent
-// numbers hold afterwards is left free.
+// S segments and P points, and the sizes with `1 + 4 (12 H + 4 Q + S)`; fewer are enough where cells share parts. With k times fewer, checks
+// 6 and 7 and the sizes look at the keys class by class, in about k passes where the classes come out even. With less than about a 1000th,
+// or with none, they compare each cell or part with each other one; so does check 8 with less than V. What the lent numbers hold afterwards is
+// left free.
 use numbering::count;
 use numbering::parts::Parts;
 use numbering::parts::Tally;

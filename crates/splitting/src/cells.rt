@@ -278,7 +278,7 @@ fn split_entry(
 }
 
 // Splits all cells of a flat table, with the tables of their kind. The arrays for a cell's corners and for its numbers are made once and
-// lent to each turn: clearing them for each cell costs more than splitting a segment.
+// lent to each turn: clearing them for each cell took a tenth of the time where there are only segments.
 fn split_each(
     w: &mut [u32],
     base: Base,
