@@ -101,6 +101,10 @@ pub duplicate-tables : (m : Mesh) → duplicateCell (topology m) ≡ eachKind (�
 unfolding duplicateCell topology
 duplicate-tables m = any-kinds (λ (κ : Kind). repeats same (map keyOf (cellsOf (topology m) κ)))
 
+pub no-duplicates : (m : Mesh) → duplicateCell (topology m) ≡ false → (κ : Kind)
+    → repeats same (map keyOf (cut (corners κ) (tableOf m κ))) ≡ false
+no-duplicates m h κ = no-kind (λ (κ : Kind). repeats same (map keyOf (cut (corners κ) (tableOf m κ)))) (sym (duplicate-tables m) ∙ h) κ
+
 -- 5 and 7 look at neither positions nor points, and 7 at no segment's faces
 pub fewer-tables : (m : Mesh) → repeatedCorner (topology m) ≡ false
     → repeatedCorner (topology (mesh [] (m .hexes) (m .quads) (m .segments) [])) ≡ false

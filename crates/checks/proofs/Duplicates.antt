@@ -8,7 +8,7 @@ use native.Mathlib.Omega.{arith}
 use lib.Dec.{eqb, lit<}
 use lib.ListN.{length, length-map}
 use borrow.Author.Tests.{eq-eqb, ne-eqb}
-use Rattle.rules.specs.Lists.{any, repeats, concatMap, cut, upFrom, Key, keyOf, same, distinct}
+use Rattle.rules.specs.Lists.{any, repeats, concatMap, entries, cut, upFrom, Key, keyOf, same, distinct}
 use Rattle.rules.specs.Mesh.{Kind, hex, quad, segment, point, corners, whole, singles, places, byDimension}
 use Rattle.rules.specs.Split.{cornersAt, keyAt}
 use Rattle.lists.specs.Membership.{In}
@@ -23,7 +23,7 @@ use Rattle.numbering.specs.declared.parts.Parts.{Parts}
 use Rattle.numbering.specs.declared.parts.Parts.the-variants.{HexEdges, HexFaces, Hexes, QuadEdges, Quads, Segments, SegmentFaces, Points}
 use Rattle.numbering.specs.Parts.{kindOf, dimensionOf, placesOf, partCorners, cellCorners, partKeys, tableKeys}
 use Rattle.numbering.specs.Count.{edgeKeys}
-use Rattle.checks.specs.Walk.{partsOf, metIn}
+use Rattle.checks.specs.Walk.{partsOf, metIn, countIn}
 use Rattle.checks.proofs.WalkLaws.{length-parts, met-is}
 
 -- where a key repeats, one of its places can be left out
@@ -117,6 +117,19 @@ edge-keys hs qs ss =
     rw (part-keys HexEdges hs, part-keys QuadEdges qs, part-keys Segments ss)
     (sym (ap (map keyOf) (met-is 1 (lit< tt) hs qs ss) ∙ map-append keyOf H (Q ++ S)
     ∙ ap (λ (l : List Key). map keyOf H ++ l) (map-append keyOf Q S)))
+
+-- segments that are all different are as many edges
+pub segments-alone : (hs qs ss : List ℕ) → length hs ≡ 0 → length qs ≡ 0 → repeats same (map keyOf (cut 2 ss)) ≡ false
+    → countIn 1 hs qs ss ≡ length ss / 2
+unfolding edgeKeys tableKeys cut concatMap entries
+segments-alone (x ∷ hs) qs ss a b h = absurd (omega arith)
+segments-alone [] (x ∷ qs) ss a b h = absurd (omega arith)
+segments-alone [] [] ss a b h =
+    let ks = map keyOf (cut 2 ss) in
+    ap (λ (l : List Key). length (distinct l)) (sym (edge-keys [] [] ss) ∙ cell-keys Segments refl ss)
+    ∙ ap length (distinct-once ks (repeats-once-keys ks h))
+    ∙ length-map (cut 2 ss) keyOf
+    ∙ length-cut 2 ss
 
 -- a cell has 1 to 8 corners
 pub some-corners : (of : Parts) → (0 < cellCorners of) × (cellCorners of ≤ 8)

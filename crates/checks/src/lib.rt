@@ -165,11 +165,15 @@ pub fn check_mesh(
     check_cells(words, xs, hexes, quads, segments, points)
 }
 
-// How many edges there are.
+// How many edges there are. Segments by themselves are edges, each its own: no two have one corner set.
 fn edge_count(words: &mut [u32], hexes: &[u32], quads: &[u32], segments: &[u32]) -> usize
     requires { ⌜ repeatedCorner (topology (mesh [] (now hexes) (now quads) (now segments) [])) ≡ false ⌝ }
+    requires { ⌜ repeats same (map keyOf (cut 2 (now segments))) ≡ false ⌝ }
     ensures { λ r. ⌜ r ≡ countIn 1 (now (hexes .entry)) (now (quads .entry)) (now (segments .entry)) ⌝ }
 {
+    if hexes.len() == 0 && quads.len() == 0 {
+        return segments.len() / 2;
+    }
     let tally = count::count_edges(words, hexes, quads, segments);
     match tally {
         Tally::Keys(n) => n,
@@ -177,7 +181,7 @@ fn edge_count(words: &mut [u32], hexes: &[u32], quads: &[u32], segments: &[u32])
     }
 }
 
-// The sizes of a mesh whose cells name no corner twice and whose faces are counted: what its finished counts follow from.
+// The sizes of a mesh that passes checks 5 and 6 and whose faces are counted: what its finished counts follow from.
 pub fn mesh_sizes(
     xs: &[i32],
     hexes: &[u32],
@@ -188,6 +192,7 @@ pub fn mesh_sizes(
     words: &mut [u32],
 ) -> Sizes
     requires { ⌜ repeatedCorner (topology (mesh (now xs) (now hexes) (now quads) (now segments) (now points))) ≡ false ⌝ }
+    requires { ⌜ duplicateCell (topology (mesh (now xs) (now hexes) (now quads) (now segments) (now points))) ≡ false ⌝ }
     requires { ⌜ «face_count» ≡ length (faces (topology (mesh (now xs) (now hexes) (now quads) (now segments) (now points)))) ⌝ }
     ensures { λ r.
         ⌜ r ≡ sizes (topology (mesh (now (xs .entry)) (now (hexes .entry)) (now (quads .entry)) (now (segments .entry)) (now (points .entry)))) ⌝ }

@@ -10,7 +10,7 @@ use Rattle.rules.specs.Mesh.{Mesh, Kind, hex, quad, segment, point, corners, me
 use Rattle.rules.specs.Split.{edges, faces}
 use Rattle.rules.specs.Counts.{sizes}
 use Rattle.lists.proofs.Tables.{length-cut}
-use Rattle.checks.proofs.ByKind.{tableOf, cells-cut, fewer-tables}
+use Rattle.checks.proofs.ByKind.{tableOf, cells-cut, fewer-tables, no-duplicates}
 use Rattle.checks.proofs.WalkLaws.{count-mesh}
 use Rattle.checks.proofs.mesh_sizes.Statement.{statement}
 use Rattle.checks.proofs.mesh_sizes.Tie as tie
@@ -43,12 +43,12 @@ returns : tie.Need-returns
 returns c =
     let e = c .before .before in
     let s = e .before .before .before .before .before .before .before in
-    sizes-are (meshOf s) (e .edge-count .result) (s .args .face-count) (e .edge-count .ensures ∙ count-mesh 1 (lit< tt) (meshOf s)) (s .pre .1)
+    sizes-are (meshOf s) (e .edge-count .result) (s .args .face-count) (e .edge-count .ensures ∙ count-mesh 1 (lit< tt) (meshOf s)) (s .pre .1 .1)
 
 pub mesh-sizes-spec : {M : Type 1} → statement M
 mesh-sizes-spec =
     tie.close
     (tie.spec
-    (λ c κs. let s = c .before .before .before .before .before .before in fewer-tables (meshOf s) (s .pre .0))
+    (λ c κs. let s = c .before .before .before .before .before .before in (fewer-tables (meshOf s) (s .pre .0), no-duplicates (meshOf s) (s .pre .1 .0) segment))
     (λ c. search needs)
     returns)

@@ -6,7 +6,7 @@ use denote.Ref.{now}
 use Rattle.rules.specs.declared.Sizes.{Sizes}
 use Rattle.rules.specs.Mesh.{Mesh, mesh}
 use Rattle.soundness.specs.Accepted.{Accepted}
-use Rattle.soundness.proofs.Checks.{checks-accept, no-repeated-corner}
+use Rattle.soundness.proofs.Checks.{checks-accept, no-repeated-corner, no-duplicate-cell}
 use Rattle.counting.specs.Bounded.{Bounded}
 use Rattle.refine.proofs.Decisions.{refusal-mesh, planned-refused, planned-rounds, planned-large, planned-short, planned, accepted-bounded}
 use Rattle.refine.proofs.plan.decide.Statement.{statement}
@@ -39,7 +39,7 @@ returns-2 c =
 mesh-sizes-requires : tie.Need-mesh-sizes-requires
 mesh-sizes-requires c κs =
     let e = c .before .before in
-    (no-repeated-corner _ (passed e .sound), e .before .before .before .check-mesh .ensures .faces (e .if1 .left))
+    (no-repeated-corner _ (passed e .sound), (no-duplicate-cell _ (passed e .sound), e .before .before .before .check-mesh .ensures .faces (e .if1 .left)))
 
 sizes-after-requires : tie.Need-sizes-after-requires
 sizes-after-requires c κs =
