@@ -55,7 +55,7 @@ static inline bool fits(const struct tables *room, const struct sizes *s)
     return enough;
 }
 
-static inline bool is_far(int32_t coordinate)
+static inline bool coordinate_out_of_range(int32_t coordinate)
 {
     return coordinate < LEAST_COORDINATE || coordinate > GREATEST_COORDINATE;
 }

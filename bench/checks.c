@@ -6,43 +6,43 @@
 /* Where less is lent, this much of the stack serves instead. */
 #define LOCAL_NUMBERS 4096
 
-static bool has_ragged_table(const struct tables *m)
+static bool has_partial_entry(const struct tables *m)
 {
     return m->vertices_len % 3 || m->cells_len[HEX] % 8 || m->cells_len[QUAD] % 4 || m->cells_len[SEGMENT] % 2;
 }
 
-static bool has_far_vertex(const struct tables *m)
+static bool has_coordinate_out_of_range(const struct tables *m)
 {
-    bool far = false;
+    bool outside = false;
     for (size_t i = 0; i < m->vertices_len; i++)
-        far |= is_far(m->vertices[i]);
-    return far;
+        outside |= coordinate_out_of_range(m->vertices[i]);
+    return outside;
 }
 
-static bool has_unknown_corner(const struct tables *m)
+static bool has_corner_out_of_range(const struct tables *m)
 {
-    bool unknown = false;
+    bool outside = false;
     size_t count = m->vertices_len / 3;
     for (int d = POINT; d <= HEX; d++)
         for (size_t i = 0; i < m->cells_len[d]; i++)
-            unknown |= m->cells[d][i] >= count;
-    return unknown;
+            outside |= m->cells[d][i] >= count;
+    return outside;
 }
 
-INLINE bool has_folded(const uint32_t *cells, size_t len, int k)
+INLINE bool has_repeat(const uint32_t *cells, size_t len, int k)
 {
-    bool folded = false;
+    bool repeat = false;
     for (size_t at = 0; at < len; at += k)
         for (int i = 1; i < k; i++)
             for (int j = 0; j < i; j++)
-                folded |= cells[at + i] == cells[at + j];
-    return folded;
+                repeat |= cells[at + i] == cells[at + j];
+    return repeat;
 }
 
-static bool has_folded_cell(const struct tables *m)
+static bool has_repeated_corner(const struct tables *m)
 {
-    return has_folded(m->cells[HEX], m->cells_len[HEX], 8) || has_folded(m->cells[QUAD], m->cells_len[QUAD], 4) ||
-           has_folded(m->cells[SEGMENT], m->cells_len[SEGMENT], 2);
+    return has_repeat(m->cells[HEX], m->cells_len[HEX], 8) || has_repeat(m->cells[QUAD], m->cells_len[QUAD], 4) ||
+           has_repeat(m->cells[SEGMENT], m->cells_len[SEGMENT], 2);
 }
 
 enum outcome { PASSED, FAILED, FULL };
@@ -182,7 +182,7 @@ static enum outcome sweep_in_parts(sweep *one, const struct tables *m, uint64_t 
     }
 }
 
-static bool has_doubled_cell(const struct tables *m, struct scratch scratch)
+static bool has_duplicate_cell(const struct tables *m, struct scratch scratch)
 {
     sweep *sweeps[4] = { sweep_points, sweep_segments, sweep_quads, sweep_hexes };
     uint64_t count;
@@ -200,7 +200,7 @@ uint64_t plain_count_edges(const struct tables *m, struct scratch scratch)
 }
 
 /* A bit for each vertex, as many vertices at a time as there are bits. */
-static bool has_loose_vertex(const struct tables *m, struct scratch scratch)
+static bool has_isolated_vertex(const struct tables *m, struct scratch scratch)
 {
     uint32_t local[LOCAL_NUMBERS];
     if (scratch.len < LOCAL_NUMBERS)
@@ -226,18 +226,22 @@ static bool has_loose_vertex(const struct tables *m, struct scratch scratch)
 uint32_t plain_check_tables(const struct tables *m)
 {
     struct sizes sizes = sizes_of(m);
-    return has_ragged_table(m) ? 1 : out_of_range(&sizes) ? 2 : has_far_vertex(m) ? 3 : has_unknown_corner(m) ? 4 : 0;
+    if (has_partial_entry(m))
+        return 1;
+    if (out_of_range(&sizes))
+        return 2;
+    return has_coordinate_out_of_range(m) ? 3 : has_corner_out_of_range(m) ? 4 : 0;
 }
 
 uint32_t plain_check_mesh(const struct tables *m, struct scratch scratch, uint64_t *faces)
 {
     uint64_t most_faces = 6 * (m->cells_len[HEX] / 8) + m->cells_len[QUAD] / 4;
     uint32_t refusal = plain_check_tables(m);
-    if (refusal != 0 || has_folded_cell(m))
+    if (refusal != 0 || has_repeated_corner(m))
         return refusal != 0 ? refusal : 5;
-    if (has_doubled_cell(m, scratch))
+    if (has_duplicate_cell(m, scratch))
         return 6;
     if (sweep_in_parts(sweep_faces, m, most_faces, 6, scratch, faces) == FAILED)
         return 7;
-    return has_loose_vertex(m, scratch) ? 8 : 0;
+    return has_isolated_vertex(m, scratch) ? 8 : 0;
 }

@@ -90,7 +90,7 @@ mlca_millimetres_answer NAME(millimetres)(int32_t x, int32_t y, int32_t z)
 {
     mlca_millimetres_answer answer = { 0, { x / 1024.0, y / 1024.0, z / 1024.0 } };
     mlca_millimetres_answer refused = { 3, { 0.0, 0.0, 0.0 } };
-    return is_far(x) || is_far(y) || is_far(z) ? refused : answer;
+    return coordinate_out_of_range(x) || coordinate_out_of_range(y) || coordinate_out_of_range(z) ? refused : answer;
 }
 
 /* Fixed tables, as local arrays. */

@@ -74,14 +74,14 @@ static uint32_t read_header(const uint8_t *bytes, size_t len, struct sizes *size
     return bytes[len - 1] & ((1u << spare) - 1) ? 16 : 0;
 }
 
-static bool has_unknown_corner(const uint8_t *bytes, size_t len, const struct sizes *s, uint32_t width)
+static bool has_corner_out_of_range(const uint8_t *bytes, size_t len, const struct sizes *s, uint32_t width)
 {
-    bool unknown = false;
+    bool outside = false;
     struct reader r = reader_at(bytes, len, HEADER_BITS + 90 * s->vertices);
     for (int d = HEX; d >= POINT; d--)
         for (uint64_t i = 0; i < s->cells[d] << d; i++)
-            unknown |= take(&r, width) >= s->vertices;
-    return unknown;
+            outside |= take(&r, width) >= s->vertices;
+    return outside;
 }
 
 uint32_t plain_read_stored(const uint8_t *bytes, size_t len, struct tables *room, struct sizes *s)
@@ -89,7 +89,7 @@ uint32_t plain_read_stored(const uint8_t *bytes, size_t len, struct tables *room
     uint32_t width, refusal = read_header(bytes, len, s, &width);
     if (refusal != 0)
         return refusal;
-    if (has_unknown_corner(bytes, len, s, width))
+    if (has_corner_out_of_range(bytes, len, s, width))
         return 4;
     if (!fits(room, s))
         return 11;

@@ -1,19 +1,20 @@
 -- No sum of a division overflows: a bound on the divisor, and one on the sum of biased coordinates, of any accepted mesh.
 use mathlib.Core.Path.{_≡_, sym, subst}
-use mathlib.Core.Bool.{Bool, true, false, cond}
-use mathlib.Core.List.{List, [], _∷_}
+use mathlib.Core.Bool.{false}
+use mathlib.Core.List.{List}
 use Prim.Native.Nat.{ℕ, suc, _*_, _^_, _≤_, _<_}
 use native.Mathlib.Omega.{arith}
 use native.Mathlib.Nat.{mul-le-mul, le-trans}
 use lib.Pow.{pow-mono}
 use lib.ListN.{length}
-use Rattle.rules.specs.Lists.{keep, has}
+use Rattle.rules.specs.Lists.{has}
 use Rattle.rules.specs.Mesh.{Mesh, Kind, hex, quad, segment, point, dimension, Topology, topology, cellsOf}
 use Rattle.rules.specs.Split.{split}
 use Rattle.rules.specs.Means.{meanOf}
 use Rattle.rules.specs.Averaging.{holding, rank, valence, means}
 use Rattle.rules.specs.Counts.{countsOf}
 use Rattle.rules.specs.Refusals.{countOutOfRange}
+use Rattle.lists.proofs.Membership.{length-keep}
 use Rattle.lists.proofs.Tables.{length-cut}
 use Rattle.rounding.proofs.Draws.{natTotal, natTotal-le}
 use Rattle.soundness.specs.Sound.{Sound}
@@ -32,15 +33,6 @@ rank-below t v = subst (λ (d : ℕ). d ≤ 3) (sym (ranked t v .rank)) (at (ran
     at quad = omega arith
     at segment = omega arith
     at point = omega arith
-
-length-keep : {A : Type 0} (p : A → Bool) (xs : List A) → length (keep p xs) ≤ length xs
-unfolding keep
-length-keep p [] = omega arith
-length-keep {A} p (x ∷ xs) = go (p x) (length-keep p xs)
-  where
-    go : (b : Bool) → length (keep p xs) ≤ length xs → length (cond b (x ∷ keep p xs) (keep p xs)) ≤ suc (length xs)
-    go true h = omega arith
-    go false h = omega arith
 
 -- a valence is at most the count of a table
 pub valence-below : (t : Topology) (v : ℕ) → valence t v ≤ length (cellsOf t (ranked t v .kind))

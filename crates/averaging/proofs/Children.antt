@@ -120,7 +120,7 @@ module _ (m : Mesh) (s : Sound (topology m)) (κ : Kind) where
   born-once c i h l =
       let x = child-cell t (in-cells c h) i (below-whole κ i l) in
       let size = length-child t κ (cell c) i in
-      place-once (born c i) 0 (λ j k p q e. split-sound t s .unfolded κ (born c i) (x .listed) j k (below-whole κ j (rw size at p)) (below-whole κ k (rw size at q)) e)
+      place-once (born c i) 0 (λ j k p q e. split-sound t s .corners-distinct κ (born c i) (x .listed) j k (below-whole κ j (rw size at p)) (below-whole κ k (rw size at q)) e)
 
   -- ---- on one axis, for one vertex
 

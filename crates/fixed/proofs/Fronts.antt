@@ -3,20 +3,17 @@ use mathlib.Core.Path.{_≡_, refl, sym, ap, _∙_}
 use mathlib.Core.List.{List, _++_}
 use Prim.Native.Nat.{ℕ, _*_, _≤_}
 use native.Mathlib.Omega.{arith}
-use lib.ListN.{length, take, drop, length-append}
-use lib.Seq.{take-at}
+use lib.ListN.{length, drop, length-append}
 use Rattle.rules.specs.Lists.{overwritten}
 use Rattle.rules.specs.Mesh.{Mesh}
 use Rattle.rules.specs.EntryPoints.{resultTables}
 use Rattle.rules.specs.StoredForm.{Header}
 use Rattle.stored.proofs.Form.{Sized}
+use Rattle.refine.proofs.Turns.{begins}
+use Rattle.refine.specs.Front.{frontOf}
 use Rattle.fixed.specs.Front.{front, Room}
 
 module _ {A : Type 0} where
-  begins : (n : ℕ) (old new : List A) → length new ≡ n → take n (overwritten old new) ≡ new
-  unfolding overwritten
-  begins n old new h = take-at new (drop (length new) old) n h
-
   holds : (n : ℕ) (old new : List A) → length new ≡ n → n ≤ length (overwritten old new)
   unfolding overwritten
   holds n old new h = omega (arith, length-append new (drop (length new) old))
@@ -24,7 +21,7 @@ module _ {A : Type 0} where
 -- a mesh of the lengths that a header gives
 module _ (h : Header) (old m : Mesh) (z : Sized h m) where
   pub front-result : front (h .counts) (resultTables 0 old m) ≡ m
-  unfolding front resultTables
+  unfolding frontOf resultTables
   front-result = rw (
     begins (3 * h .counts .vertices) (old .vertices) (m .vertices) (z .vertices),
     begins (8 * h .counts .hexes) (old .hexes) (m .hexes) (z .hexes),

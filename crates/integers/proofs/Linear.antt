@@ -68,7 +68,7 @@ pub ruleset ints = (arith, le-parts, parts-le, lt-parts, parts-lt, eq-parts, par
 
 -- ---- the parts of a difference, a sum, a multiple
 
-cond-ind : (c : Bool) (x y : ℤ) (P : ℤ → Type 0) → (T c → P x) → (T (not c) → P y) → P (cond c x y)
+pub cond-ind : (c : Bool) (x y : ℤ) (P : ℤ → Type 0) → (T c → P x) → (T (not c) → P y) → P (cond c x y)
 cond-ind true x y P f g = f tt
 cond-ind false x y P f g = g tt
 

@@ -11,6 +11,7 @@ use lib.ListN.{length, take, getD, set, length-append, length-set}
 use lib.Seq.{take-suc, take-all, length-take-le, getD-set-same, getD-set-other}
 use borrow.Author.Tests.{eqb-true, eqb-false, eq-eqb}
 use Rattle.rules.specs.Lists.{keep}
+use Rattle.lists.proofs.Membership.{length-keep}
 use Rattle.checks.specs.Marked.{Marked}
 use Rattle.irregular.specs.Times.{times}
 use Rattle.irregular.specs.Tallied.{Tallied, Counted, Ranked}
@@ -28,22 +29,13 @@ module _ {A : Type 0} where
       go true ih = ap (λ (l : List A). x ∷ l) ih
       go false ih = ih
 
-  keep-le : (p : A → Bool) (xs : List A) → length (keep p xs) ≤ length xs
-  unfolding keep
-  keep-le p [] = omega arith
-  keep-le p (x ∷ xs) = go (p x) (keep-le p xs)
-    where
-      go : (b : Bool) → length (keep p xs) ≤ length xs → length (cond b (x ∷ keep p xs) (keep p xs)) ≤ suc (length xs)
-      go true ih = omega arith
-      go false ih = omega arith
-
 pub times-append : (v : ℕ) (xs ys : List ℕ) → times v (xs ++ ys) ≡ times v xs + times v ys
 unfolding times
 times-append v xs ys = ap length (keep-append (eqb v) xs ys) ∙ length-append (keep (eqb v) xs) (keep (eqb v) ys)
 
 pub times-le : (v : ℕ) (xs : List ℕ) → times v xs ≤ length xs
 unfolding times
-times-le v xs = keep-le (eqb v) xs
+times-le v xs = length-keep (eqb v) xs
 
 -- one element more is looked at
 one : (v x : ℕ) → times v (x ∷ []) ≡ cond (eqb v x) 1 0

@@ -10,7 +10,7 @@ use Rattle.rules.specs.declared.Sizes.{Sizes}
 use Rattle.rules.specs.Lists.{overwritten}
 use Rattle.rules.specs.Mesh.{Mesh, mesh}
 use Rattle.rules.specs.EntryPoints.{resultTables}
-use Rattle.refine.specs.Front.{front, Room}
+use Rattle.refine.specs.Front.{frontOf, front, Room}
 
 pub same-mesh : {xs xs′ : List ℤ} {hs hs′ qs qs′ ss ss′ ps ps′ : List ℕ} → xs ≡ xs′ → hs ≡ hs′ → qs ≡ qs′ → ss ≡ ss′ → ps ≡ ps′ → mesh xs hs qs ss ps ≡ mesh xs′ hs′ qs′ ss′ ps′
 same-mesh a b c d e = rw (a, b, c, d, e)
@@ -32,7 +32,7 @@ module _ {A : Type 0} where
 
 -- tables that begin with a copy of the front of others begin with the same mesh, and keep their lengths
 pub front-copied : (s : Sizes) (to tables : Mesh) → Room s tables → front s (resultTables 0 to (front s tables)) ≡ front s tables
-unfolding front resultTables
+unfolding frontOf resultTables
 front-copied s to tables r =
     same-mesh (front-overwritten (3 * s .vertices) (to .vertices) (tables .vertices) (r .vertices))
     (front-overwritten (8 * s .hexes) (to .hexes) (tables .hexes) (r .hexes))
@@ -41,7 +41,7 @@ front-copied s to tables r =
     (front-overwritten (s .points) (to .points) (tables .points) (r .points))
 
 pub room-copied : (s : Sizes) (to tables : Mesh) → Room s to → Room s (resultTables 0 to (front s tables))
-unfolding front resultTables
+unfolding frontOf resultTables
 room-copied s to tables r = record {
   vertices = rw (kept (3 * s .vertices) (to .vertices) (tables .vertices) (r .vertices)) (r .vertices);
   hexes = rw (kept (8 * s .hexes) (to .hexes) (tables .hexes) (r .hexes)) (r .hexes);

@@ -24,7 +24,7 @@ use Rattle.soundness.proofs.SplitSizes.{after-suc, after-grows, never-fall}
 use Rattle.soundness.proofs.Rounds.{counts-now, in-range, refined-sizes, tooLarge-before}
 use Rattle.accuracy.proofs.Accepted.{refined-near, accepted-again}
 use Rattle.counting.specs.Bounded.{Bounded}
-use Rattle.refine.specs.Front.{front, Room}
+use Rattle.refine.specs.Front.{frontOf, front, Room}
 use Rattle.refine.specs.Ready.{Ready, ReadyFor}
 use Rattle.refine.proofs.Five.{same-mesh, length-part, length-overwritten}
 
@@ -80,7 +80,7 @@ module _ {A : Type 0} where
   own n xs h = ap (λ (k : ℕ). take n xs ++ drop k xs) (sym (length-part n xs h)) ∙ take-append-drop n xs
 
 pub front-begins : (s : Sizes) (old m : Mesh) → Filled s m → front s (resultTables 0 old m) ≡ m
-unfolding front resultTables
+unfolding frontOf resultTables
 front-begins s old m f =
     same-mesh (begins (3 * s .vertices) (old .vertices) (m .vertices) (f .vertices))
     (begins (8 * s .hexes) (old .hexes) (m .hexes) (f .hexes))
@@ -268,7 +268,7 @@ pub record Turning (n k : ℕ) (m : Mesh) (s : Sizes) (out₀ out work₀ work :
   pub sameLongs : length longs ≡ length longs₀
 
 own-front : (s : Sizes) (tables : Mesh) → Room s tables → resultTables 0 tables (front s tables) ≡ tables
-unfolding front resultTables
+unfolding frontOf resultTables
 own-front s tables r =
     same-mesh (own (3 * s .vertices) (tables .vertices) (r .vertices))
     (own (8 * s .hexes) (tables .hexes) (r .hexes))
@@ -308,7 +308,7 @@ module _ {n k : ℕ} {m : Mesh} {s₀ s : Sizes} {out₀ out work₀ work : Mesh
 
     -- no coordinate leaves its range
     pub turning-near : any outside (take (3 * s′ .vertices) (out′ .vertices)) ≡ false
-    unfolding front coordinateOutOfRange
+    unfolding frontOf coordinateOutOfRange
     turning-near =
         ap (λ (r : Sizes). any outside (take (3 * r .vertices) (out′ .vertices))) next-sized
         ∙ ap (λ (x : Mesh). any outside (x .vertices)) (front-now ready (suc k) h out′ next-holds)

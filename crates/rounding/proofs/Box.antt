@@ -1,18 +1,16 @@
 -- A mean stays between bounds; so do the written coordinates, after any rounds, and the bounding box gives such bounds.
 use mathlib.Core.Path.{_≡_, sym, _∙_, ap, subst}
 use mathlib.Core.List.{List, [], _∷_}
-use mathlib.Core.Bool.{Bool, true, false, not, cond}
 use Prim.Native.Nat.{ℕ, zero, suc, _<_}
 use native.Mathlib.Nat.{le-of-suc-le-suc, not-suc-le-zero}
 use lib.ListN.{length}
-use lib.Dec.{T}
 use lib.IntN.{ℤ, pos, _*ℤ_}
 use lib.Signed.{ltZ, _≤ℤ_, ≤ℤ-refl, ltZ-yes, ltZ-no}
 use Rattle.rules.specs.Means.{Mean, Round, noMean, meanOf, coordinate, total, rounded}
 use Rattle.rules.specs.Accuracy.{written, lesser, greater, leastOf, greatestOf, least, greatest}
 use Rattle.lists.proofs.Membership.{getD-map}
 use Rattle.lists.proofs.Each.{each-at}
-use Rattle.integers.proofs.Linear.{≤ℤ-trans, ≤ℤ-of-<}
+use Rattle.integers.proofs.Linear.{≤ℤ-trans, ≤ℤ-of-<, cond-ind}
 use Rattle.integers.proofs.Floor.{floor-lower, floor-upper}
 use Rattle.rounding.specs.Good.{GoodMean, count, GoodRounds}
 use Rattle.rounding.proofs.Draws.{total-le, total-const}
@@ -48,10 +46,6 @@ written-between n lo hi (r ∷ past) xs g b v h =
     (rounded-between (count n past) lo hi before (meanOf r v) (each-at (GoodMean (count n past)) r noMean v (g .0) h) (written-between n lo hi past xs (g .1) b))
 
 -- ---- each coordinate is between the least and the greatest
-
-cond-ind : (c : Bool) (x y : ℤ) (P : ℤ → Type 0) → (T c → P x) → (T (not c) → P y) → P (cond c x y)
-cond-ind true x y P f g = f tt
-cond-ind false x y P f g = g tt
 
 lesser-both : (a b : ℤ) → (lesser a b ≤ℤ a) × (lesser a b ≤ℤ b)
 lesser-both a b = cond-ind (ltZ a b) a b (λ z. (z ≤ℤ a) × (z ≤ℤ b)) (λ t. (≤ℤ-refl a, ≤ℤ-of-< (ltZ-yes t))) (λ t. (ltZ-no t, ≤ℤ-refl b))

@@ -81,13 +81,13 @@ module _ (t : Topology) where
     unfolding repeatedCorner
     no-repeated-corner =
         cells-none (repeats eqb)
-        (λ κ c i. once-repeats-numbers c (place-once c 0 (λ a b j k e. s .unfolded κ c i a b (below-placed κ c i a j) (below-placed κ c i b k) e)))
+        (λ κ c i. once-repeats-numbers c (place-once c 0 (λ a b j k e. s .corners-distinct κ c i a b (below-placed κ c i a j) (below-placed κ c i b k) e)))
 
     pub no-duplicate-cell : duplicateCell t ≡ false
     unfolding duplicateCell
     no-duplicate-cell =
         in-none (λ (κ : Kind). repeats same (map keyOf (cellsOf t κ))) kinds
-        (λ κ i. once-repeats-keys (map keyOf (cellsOf t κ)) (s .undoubled κ))
+        (λ κ i. once-repeats-keys (map keyOf (cellsOf t κ)) (s .cells-distinct κ))
 
     pub no-mismatched-face : mismatchedFace t ≡ false
     unfolding mismatchedFace
@@ -124,9 +124,9 @@ module _ (t : Topology) where
       known = λ κ c i j k.
           leb-false (t .vertexCount) (corner c j)
           (none-in (leb (t .vertexCount)) c (none-cells (any (leb (t .vertexCount))) h₄ κ c i) (corner c j) (getD-in c j 0 (placed-below κ c i j k)));
-      unfolded = λ κ c i a b j k e.
+      corners-distinct = λ κ c i a b j k e.
           once-place c 0 (repeats-once-numbers c (none-cells (repeats eqb) h₅ κ c i)) a b (placed-below κ c i a j) (placed-below κ c i b k) e;
-      undoubled =
+      cells-distinct =
           λ κ. repeats-once-keys (map keyOf (cellsOf t κ))
           (none-in (λ (κ : Kind). repeats same (map keyOf (cellsOf t κ))) kinds h₆ κ (every κ));
       matched = λ f g i j e.

@@ -96,7 +96,7 @@ module _ (t : Topology) (s : Sound t) where
       λ a k.
       let r = in-part (x .cell) q (corner (x .cell) a) (h (corner (x .cell) a) (part-in (x .cell) p a k)) in
       let e : a ≡ r .0 =
-      s .unfolded (x .kind) (x .cell) (x .listed) a (r .0) (placed (x .kind) p i a k) (placed (x .kind) q j (r .0) (r .1)) (r .2) in
+      s .corners-distinct (x .kind) (x .cell) (x .listed) a (r .0) (placed (x .kind) p i a k) (placed (x .kind) q j (r .0) (r .1)) (r .2) in
       subst (λ (w : ℕ). In w q) (sym e) (r .1)
 
   pub key-inj :
@@ -114,8 +114,8 @@ module _ (t : Topology) (s : Sound t) where
   unfolding keyAt cornersAt
   part-ext x p q w h k v =
       key-ext (cornersAt (x .cell) p) (cornersAt (x .cell) q)
-      (once-map (corner (x .cell)) p h (λ a b i j e. s .unfolded (x .kind) (x .cell) (x .listed) a b (w a i) (w b j) e))
-      (once-map (corner (x .cell)) q k (λ a b i j e. s .unfolded (x .kind) (x .cell) (x .listed) a b (w a (v .1 a i)) (w b (v .1 b j)) e))
+      (once-map (corner (x .cell)) p h (λ a b i j e. s .corners-distinct (x .kind) (x .cell) (x .listed) a b (w a i) (w b j) e))
+      (once-map (corner (x .cell)) q k (λ a b i j e. s .corners-distinct (x .kind) (x .cell) (x .listed) a b (w a (v .1 a i)) (w b (v .1 b j)) e))
       (map-within (corner (x .cell)) p q (v .0))
       (map-within (corner (x .cell)) q p (v .1))
 

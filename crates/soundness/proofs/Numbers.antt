@@ -177,7 +177,7 @@ module _ (t : Topology) (s : Sound t) where
 
   pub hexes-listed : distinctParts t 3 ≡ map keyOf (t .hexes)
   unfolding distinctParts
-  hexes-listed = ap (λ (l : List (List ℕ)). distinct (map keyOf l)) hexes-met ∙ distinct-once (map keyOf (t .hexes)) (s .undoubled hex)
+  hexes-listed = ap (λ (l : List (List ℕ)). distinct (map keyOf l)) hexes-met ∙ distinct-once (map keyOf (t .hexes)) (s .cells-distinct hex)
 
   -- hex number h of the table is number h behind the vertices, the edges and the faces
   pub fine-hex : (h : ℕ) → h < length (t .hexes) → fine t (getD (t .hexes) h []) (whole hex) ≡ start t 3 + h
@@ -190,7 +190,7 @@ module _ (t : Topology) (s : Sound t) where
       fine-upper t (record { kind = hex; cell = c; listed = i }) 3 (inr (inr (inl refl))) (whole hex) is-hex
       ∙ ap (λ (z : ℕ). start t 3 + z)
       (ap (indexOf (keyAt c (whole hex))) hexes-listed ∙ ap (λ (k : Key). indexOf k (map keyOf (t .hexes))) (sym e)
-      ∙ index-at (map keyOf (t .hexes)) (s .undoubled hex) h (omega arith))
+      ∙ index-at (map keyOf (t .hexes)) (s .cells-distinct hex) h (omega arith))
 
   -- The fine vertices of a cell, in the order of its parts: its corners, its edges, its faces, its body. This is what a kernel stores.
   pub cell-vertices :

@@ -67,7 +67,7 @@ module _ (t : Topology) (s : Sound t) where
         let k : x .kind ≡ y .kind = a .0 ∙ sym (b .0) in
         let w : r ≡ r′ = a .1 ∙ ap whole k ∙ sym (b .1) in
         let c : x .cell ≡ y .cell =
-        once-inj keyOf (cellsOf t (y .kind)) (s .undoubled (y .kind)) (x .cell) (y .cell)
+        once-inj keyOf (cellsOf t (y .kind)) (s .cells-distinct (y .kind)) (x .cell) (y .cell)
         (subst (λ (κ : Kind). In (x .cell) (cellsOf t κ)) k (x .listed)) (y .listed)
         (sym (key-whole (x .kind) (x .cell) (s .sized (x .kind) (x .cell) (x .listed))) ∙ ap (keyAt (x .cell)) (sym (a .1)) ∙ e
         ∙ ap (keyAt (y .cell)) (b .1)

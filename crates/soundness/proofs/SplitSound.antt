@@ -41,7 +41,7 @@ module _ (t : Topology) (s : Sound t) where
         ends t s x y (i ∷ []) (whole κ) (j ∷ []) (whole κ) v (whole-in κ) (placed κ (i ∷ []) v) w (whole-in κ) (placed κ (j ∷ []) w)
         (sym (whole-key x i h) ∙ e ∙ whole-key y j k) in
         let p : c ≡ b =
-        once-inj keyOf (cellsOf t κ) (s .undoubled κ) c b ci bi
+        once-inj keyOf (cellsOf t κ) (s .cells-distinct κ) c b ci bi
         (sym (key-whole κ c (s .sized κ c ci)) ∙ z .1 ∙ key-whole κ b (s .sized κ b bi)) in
         let q : i ∷ [] ≡ j ∷ [] = key-inj t s x (i ∷ []) (j ∷ []) v w (z .0 ∙ ap (λ (d : List ℕ). keyAt d (j ∷ [])) (sym p)) in
         (p, head-eq-of-cons-eq q)
@@ -51,7 +51,7 @@ module _ (t : Topology) (s : Sound t) where
     children-apart =
         once-map keyOf (cellsOf (split t) κ)
         (subst Once (sym (cells-split t κ))
-        (once-concatMap (children (parts t) κ) (cellsOf t κ) (once-source keyOf (cellsOf t κ) (s .undoubled κ))
+        (once-concatMap (children (parts t) κ) (cellsOf t κ) (once-source keyOf (cellsOf t κ) (s .cells-distinct κ))
         (λ c ci. once-map (childAt t κ c) (whole κ) (once-whole κ) (λ i j h k e. child-apart c c ci ci i j h k (ap keyOf e) .1))
         (λ c b z ci bi zc zb.
         let p = in-map (childAt t κ c) (whole κ) z zc in
@@ -125,7 +125,7 @@ module _ (t : Topology) (s : Sound t) where
         let l : indexOf (keyAt (a .parent) q) (parts t) < length (parts t) =
         index-below (keyAt (a .parent) q) (parts t) (part-known t s x q (smallest-part κ (a .number) (a .placed) j h)) in
         subst (λ (n : ℕ). n < length (parts t)) (sym (corner-is κ c i j h)) l;
-    unfolded = λ κ c i j k h g e.
+    corners-distinct = λ κ c i j k h g e.
         let a = is-child t κ c i in
         let x : CellOf t = record { kind = κ; cell = a .parent; listed = a .listed } in
         let n = a .number in
@@ -134,7 +134,7 @@ module _ (t : Topology) (s : Sound t) where
         once-inj (smallest κ n) (whole κ) (whole-child κ n (a .placed) .0) j k h g
         (key-inj t s x (smallest κ n j) (smallest κ n k) p q
         (fine-eq t s x x (smallest κ n j) (smallest κ n k) p q (sym (corner-is κ c i j h) ∙ e ∙ corner-is κ c i k g)));
-    undoubled = λ κ. children-apart κ;
+    cells-distinct = λ κ. children-apart κ;
     matched = λ f g i j e k h. faces-match t s f g (face t s f i) (face t s g j) e k h;
     held = held-again;
   }

@@ -28,9 +28,9 @@ pub record Sound (t : Topology) : Type 0 where
   -- 4: each corner is below the vertex count
   pub known : (κ : Kind) (cell : List ℕ) → In cell (cellsOf t κ) → (j : ℕ) → In j (whole κ) → corner cell j < t .vertexCount
   -- 5: no cell names a corner twice
-  pub unfolded : (κ : Kind) (cell : List ℕ) → In cell (cellsOf t κ) → (i j : ℕ) → In i (whole κ) → In j (whole κ) → corner cell i ≡ corner cell j → i ≡ j
+  pub corners-distinct : (κ : Kind) (cell : List ℕ) → In cell (cellsOf t κ) → (i j : ℕ) → In i (whole κ) → In j (whole κ) → corner cell i ≡ corner cell j → i ≡ j
   -- 6: no two cells of one kind have one corner set
-  pub undoubled : (κ : Kind) → Once (map keyOf (cellsOf t κ))
+  pub cells-distinct : (κ : Kind) → Once (map keyOf (cellsOf t κ))
   -- 7: two faces with one corner set have the same neighbours in going round
   pub matched : (f g : List ℕ) → In f (met t 2) → In g (met t 2) → keyOf f ≡ keyOf g → (e : Key) → In e (ring f) → In e (ring g)
   -- 8: each vertex is in a cell

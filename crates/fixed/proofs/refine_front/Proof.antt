@@ -2,12 +2,12 @@
 use mathlib.Core.Path.{sym}
 use lib.Seq.{length-take-le}
 use borrow.Author.Needs.{needs}
-use Rattle.fixed.specs.Front.{front}
+use Rattle.refine.specs.Front.{frontOf}
 use Rattle.fixed.proofs.refine_front.Statement.{statement}
 use Rattle.fixed.proofs.refine_front.Tie as tie
 
 pub refine-front-spec : {M : Type 1} → statement M
-unfolding front
+unfolding frontOf
 refine-front-spec =
     tie.close
     (tie.spec

@@ -2,12 +2,12 @@
 use mathlib.Core.Path.{sym}
 use lib.Seq.{length-take-le}
 use borrow.Author.Needs.{needs}
-use Rattle.fixed.specs.Front.{front}
+use Rattle.refine.specs.Front.{frontOf}
 use Rattle.lines.proofs.front_lines.Statement.{statement}
 use Rattle.lines.proofs.front_lines.Tie as tie
 
 pub front-lines-spec : {M : Type 1} → statement M
-unfolding front
+unfolding frontOf
 front-lines-spec =
     tie.close
     (tie.spec

@@ -6,6 +6,7 @@ use lib.Seq.{length-take-le}
 use mir.Facts.{toZ-ofZ}
 use borrow.Author.Needs.{needs}
 use Rattle.rules.specs.Mesh.{mesh}
+use Rattle.refine.specs.Front.{frontOf}
 use Rattle.fixed.specs.Front.{front}
 use Rattle.mlca.proofs.Numbers.{irregular-fits}
 use Rattle.mlca.proofs.Calls.{irregular-number}
@@ -13,7 +14,7 @@ use Rattle.mlca.proofs.viewer.count_front.Statement.{statement}
 use Rattle.mlca.proofs.viewer.count_front.Tie as tie
 
 signed-requires : tie.Need-signed-requires
-unfolding front
+unfolding frontOf
 signed-requires c κs =
     let w = c .before in
     let s = c .before .before .before .before .before .before .before .before .before .before .before .before .before .before .before .before .before in
@@ -21,7 +22,7 @@ signed-requires c κs =
     irregular-fits (front (s .args .c) (mesh (s .args .xs .now) (s .args .hexes .now) (s .args .quads .now) (s .args .segments .now) (s .args .points .now))) (w .irregular-count .result) (omega (arith, l, s .pre .vertices, s .good .1 .0 .1)) (w .irregular-count .ensures .0)
 
 returns : tie.Need-returns
-unfolding front
+unfolding frontOf
 returns c =
     let w = c .before .before in
     toZ-ofZ (record { sfits = c .signed .ok }) ∙ c .signed .ensures ∙ irregular-number _ (w .irregular-count .result) (w .irregular-count .ensures .0)

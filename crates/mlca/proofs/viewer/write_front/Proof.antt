@@ -4,20 +4,20 @@ use native.Mathlib.Omega.{arith}
 use lib.Seq.{length-take-le}
 use mir.Facts.{toZ-ofZ}
 use borrow.Author.Needs.{needs}
-use Rattle.fixed.specs.Front.{front}
+use Rattle.refine.specs.Front.{frontOf}
 use Rattle.mlca.proofs.Numbers.{bytes-fit}
 use Rattle.mlca.proofs.Calls.{writing-number}
 use Rattle.mlca.proofs.viewer.write_front.Statement.{statement}
 use Rattle.mlca.proofs.viewer.write_front.Tie as tie
 
 signed-requires : tie.Need-signed-requires
-unfolding front
+unfolding frontOf
 signed-requires c κs =
     let w = c .before .before in
     bytes-fit _ _ (w .write .result) (c .before .before .before .before .before .before .before .before .before .before .before .before .before .before .before .before .before .before .before .good .1 .1 .1 .1 .1 .1 .0 .1) (w .write .ensures .0)
 
 returns : tie.Need-returns
-unfolding front
+unfolding frontOf
 returns c =
     let w = c .before .before .before in
     (toZ-ofZ (record { sfits = c .signed .ok }) ∙ c .signed .ensures ∙ writing-number _ _ (w .write .result) (w .write .ensures .0), w .write .ensures .1 .0)

@@ -1,7 +1,7 @@
 -- `refine::tables::copy_front` meets its contract: a part of each table is copied. Assumes nothing.
 use borrow.Author.Needs.{needs}
 use Rattle.rules.specs.EntryPoints.{resultTables}
-use Rattle.refine.specs.Front.{front}
+use Rattle.refine.specs.Front.{frontOf, front}
 use Rattle.refine.proofs.Five.{length-part, part-fits}
 use Rattle.refine.proofs.tables.copy_front.Statement.{statement}
 use Rattle.refine.proofs.tables.copy_front.Tie as tie
@@ -39,7 +39,7 @@ copy-requires c κs =
     )
 
 returns : tie.Need-returns
-unfolding front
+unfolding frontOf
 returns c = let p = c .before .before .before .before .before .before .before .before .before in p .copy .ensures
 
 pub copy-front-spec : {M : Type 1} → statement M

@@ -1,6 +1,6 @@
 -- `refine::turn::round_front` meets its contract: a part of each table is refined. Assumes nothing.
 use borrow.Author.Needs.{needs}
-use Rattle.refine.specs.Front.{front}
+use Rattle.refine.specs.Front.{frontOf, front}
 use Rattle.refine.proofs.Five.{length-part}
 use Rattle.refine.proofs.turn.round_front.Statement.{statement}
 use Rattle.refine.proofs.turn.round_front.Tie as tie
@@ -31,13 +31,13 @@ slice-aggregate-round-5 c =
     length-part _ (s .args .ps .now) (s .pre .0 .points)
 
 round-requires : tie.Need-round-requires
-unfolding front
+unfolding frontOf
 round-requires c κs =
     let s = c .before .before .before .before .before .before .before .before .before .before .before .before .before .before .before .before .before .before .before .before .before .before in
     s .pre .1
 
 returns : tie.Need-returns
-unfolding front
+unfolding frontOf
 returns c =
     let r = c .before .before .before .before .before .before .before .before .before .before .before .before .before in
     r .round .ensures
