@@ -2,15 +2,15 @@
 use mathlib.Core.Path.{_≡_, refl, sym, ap, _∙_}
 use mathlib.Core.Bool.{Bool, true, false, _||_}
 use mathlib.Core.List.{List, [], _∷_}
-use Prim.Native.Nat.{ℕ, _+_, _<_, _≤_}
-use native.Mathlib.Nat.{zero-add}
+use Prim.Native.Nat.{ℕ, _+_, _-_, _<_, _≤_}
+use native.Mathlib.Nat.{sub-zero}
 use native.Mathlib.Numerals.{add-one}
 use native.Mathlib.Omega.{arith}
 use lib.ListN.{length, take, drop, getD, drop-of-length-le}
 use lib.Seq.{take-all, drop-cons}
 use Rattle.rules.specs.Lists.{any, repeats, upFrom}
-use Rattle.lists.proofs.Membership.{length-upFrom, getD-upFrom}
-use Rattle.lists.proofs.Tests.{any-turn}
+use Rattle.lists.proofs.Membership.{upFrom-append}
+use Rattle.lists.proofs.Tests.{any-turn, any-append}
 
 module _ {A : Type 0} where
   -- f is found by going through a list: p says of an element, and of those behind it, whether the search may stop there
@@ -52,20 +52,36 @@ module _ {A : Type 0} where
       → length l ≤ i → false ≡ r
   scan-end s {r} {l} {i} at h = rw (at .rest, drop-of-length-le l {i = i} h) (sym (s .at-nil))
 
--- ---- the numbers below n
+-- ---- the numbers below n, some at a time
 
-module _ (p : ℕ → Bool) (n : ℕ) {r : Bool} {v : ℕ} (at : Scanning (any p) r (upFrom 0 n) v) where
-  this : v < n → getD (upFrom 0 n) v 0 ≡ v
-  this h = getD-upFrom 0 n v 0 h ∙ zero-add v
+pub record Windowing (p : ℕ → Bool) (n : ℕ) (r : Bool) (first : ℕ) : Type 0 where
+  pub below : first ≤ n
+  pub rest : r ≡ any p (upFrom first (n - first))
 
-  pub range-hit : v < n → p v ≡ true → true ≡ r
-  range-hit h e = scan-hit (any-search p) 0 at (rw (length-upFrom 0 n) h) (rw (this h) e)
+pub window-start : (p : ℕ → Bool) (n : ℕ) → Windowing p n (any p (upFrom 0 n)) 0
+window-start p n = record { below = omega arith; rest = rw (sub-zero n) }
 
-  pub range-miss : v < n → p v ≡ false → Scanning (any p) r (upFrom 0 n) (v + 1)
-  range-miss h e = scan-miss (any-search p) 0 at (rw (length-upFrom 0 n) h) (rw (this h) e)
+module _ (p : ℕ → Bool) (n : ℕ) {r : Bool} {first : ℕ} (at : Windowing p n r first) (size : ℕ) (h : size ≤ n - first) where
+  -- the rest, taken apart
+  window-turn : r ≡ (any p (upFrom first size) || any p (upFrom (first + size) (n - (first + size))))
+  window-turn =
+      let e : n - first ≡ size + (n - (first + size)) = omega (arith, at .below) in
+      at .rest
+      ∙ ap (λ (k : ℕ). any p (upFrom first k)) e
+      ∙ ap (any p) (upFrom-append first size (n - (first + size)))
+      ∙ any-append p (upFrom first size) (upFrom (first + size) (n - (first + size)))
 
-  pub range-end : n ≤ v → false ≡ r
-  range-end h = scan-end (any-search p) at (rw (length-upFrom 0 n) h)
+  pub window-hit : any p (upFrom first size) ≡ true → true ≡ r
+  window-hit e = rw (window-turn, e)
+
+  pub window-miss : any p (upFrom first size) ≡ false → Windowing p n r (first + size)
+  window-miss e = record { below = omega (arith, at .below); rest = rw (window-turn, e) }
+
+pub window-end : (p : ℕ → Bool) (n : ℕ) {r : Bool} {first : ℕ} → Windowing p n r first → n ≤ first → false ≡ r
+unfolding any upFrom
+window-end p n {r} {first} at h =
+    let e : n - first ≡ 0 = omega arith in
+    sym (at .rest ∙ ap (λ (k : ℕ). any p (upFrom first k)) e)
 
 -- ---- a loop that goes to the end
 

@@ -1,11 +1,11 @@
 -- Parts of a slice that a call is lent, as lists: the rest of a slice, and an entry of a table. Assumes nothing.
 use mathlib.Core.Path.{_≡_, sym, _∙_}
 use mathlib.Core.Logic.{inl, inr}
-use mathlib.Core.List.{List, [], _∷_}
+use mathlib.Core.List.{List, [], _∷_, _++_}
 use Prim.Native.Nat.{ℕ, zero, suc, _+_, _-_, _*_, _/_, _≤_, _<_}
 use native.Mathlib.Nat.{ne-of-lt, le-of-eq, add-sub-cancel-left, mul-div-le, mul-le-mul-left}
 use native.Mathlib.Omega.{arith}
-use lib.ListN.{length, take, drop, getD, set, length-drop, length-set}
+use lib.ListN.{length, take, drop, getD, set, length-append, length-drop, length-set}
 use lib.Seq.{take-all, length-take-le, getD-take, getD-set-same, getD-set-other, ext-getD}
 use borrow.Author.Count.{below-more}
 use Rattle.rules.specs.Lists.{cut}
@@ -15,6 +15,10 @@ use Rattle.lists.proofs.Tables.{cut-entry, length-cut}
 module _ {A : Type 0} where
   pub rest-part : (n : ℕ) (xs : List A) → take (length xs - n) (drop n xs) ≡ drop n xs
   rest-part n xs = take-all (length xs - n) (drop n xs) (le-of-eq (length-drop n xs))
+
+  -- a front that is lent and given back
+  pub given-back : (n : ℕ) (xs ys : List A) → n ≤ length xs → length ys ≡ length (take n xs) → length (ys ++ drop n xs) ≡ length xs
+  given-back n xs ys h e = omega (arith, e, length-take-le n xs h, length-append ys (drop n xs), length-drop n xs)
 
   -- entry number c lies within its table
   pub entry-within : (k c : ℕ) (xs : List A) → c < length (cut k xs) → k * c + k ≤ length xs

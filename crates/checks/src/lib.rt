@@ -14,13 +14,14 @@ use rules::Sizes;
 ghost use mathlib.Core.Path.{_≡_};
 ghost use mathlib.Core.Bool.{false};
 ghost use mathlib.Core.List.{[], map};
+ghost use Prim.Native.Nat.{_<_};
 ghost use lib.Dec.{eqb};
 ghost use lib.ListN.{length};
 ghost use Rattle.rules.specs.Lists.{any, repeats, cut, keyOf, same};
 ghost use Rattle.rules.specs.Mesh.{mesh, topology};
 ghost use Rattle.rules.specs.Split.{faces};
 ghost use Rattle.rules.specs.Counts.{sizes};
-ghost use Rattle.rules.specs.Refusals.{partialEntry, countOutOfRange, cornerOutOfRange, repeatedCorner, duplicateCell, isolatedVertex, tableChecks};
+ghost use Rattle.rules.specs.Refusals.{partialEntry, repeatedCorner, duplicateCell, isolatedVertex, tableChecks};
 ghost use Rattle.numbering.specs.Parts.{partCorners, cellCorners};
 ghost use Rattle.checks.specs.Walk.{countIn};
 ghost use Rattle.checks.specs.Checked.{MeshChecked};
@@ -95,18 +96,14 @@ fn has_isolated_vertex(
     segments: &[u32],
     points: &[u32],
 ) -> bool
+    requires { ⌜ 0 < length (now words) ⌝ }
     requires { ⌜ partialEntry (mesh (now xs) (now hexes) (now quads) (now segments) (now points)) ≡ false ⌝ }
-    requires { ⌜ countOutOfRange (mesh (now xs) (now hexes) (now quads) (now segments) (now points)) ≡ false ⌝ }
-    requires { ⌜ cornerOutOfRange (topology (mesh (now xs) (now hexes) (now quads) (now segments) (now points))) ≡ false ⌝ }
     ensures { λ r.
         ⌜ r ≡ isolatedVertex (topology
         (mesh (now (xs .entry)) (now (hexes .entry)) (now (quads .entry)) (now (segments .entry)) (now (points .entry)))) ⌝ }
 {
     let n = xs.len() / 3;
-    if n <= words.len() {
-        return marks::has_isolated_vertex(&mut words[..n], hexes, quads, segments, points);
-    }
-    pairwise::has_isolated_vertex(n as u32, hexes, quads, segments, points)
+    marks::has_isolated_vertex(words, n, hexes, quads, segments, points)
 }
 
 // A mesh that is refused: its faces are not asked for.
@@ -116,8 +113,8 @@ fn refused(refusal: u32) -> Checked
     Checked { refusal, faces: 0 }
 }
 
-// 5 to 8 in order, of a mesh that passes 1 to 4.
-fn check_cells(
+// 5 to 8 in order, of a mesh that passes 1 to 4, with these numbers.
+fn check_cells_with(
     words: &mut [u32],
     xs: &[i32],
     hexes: &[u32],
@@ -125,6 +122,7 @@ fn check_cells(
     segments: &[u32],
     points: &[u32],
 ) -> Checked
+    requires { ⌜ 0 < length (now words) ⌝ }
     requires { ⌜ tableChecks (mesh (now xs) (now hexes) (now quads) (now segments) (now points)) 0 ≡ 0 ⌝ }
     ensures { λ r.
         ⌜ MeshChecked (mesh (now (xs .entry)) (now (hexes .entry)) (now (quads .entry)) (now (segments .entry)) (now (points .entry))) r ⌝ }
@@ -146,6 +144,26 @@ fn check_cells(
     Checked { refusal: 0, faces }
 }
 
+// 5 to 8 in order. Where next to nothing is lent, an array of its own serves instead.
+fn check_cells(
+    words: &mut [u32],
+    xs: &[i32],
+    hexes: &[u32],
+    quads: &[u32],
+    segments: &[u32],
+    points: &[u32],
+) -> Checked
+    requires { ⌜ tableChecks (mesh (now xs) (now hexes) (now quads) (now segments) (now points)) 0 ≡ 0 ⌝ }
+    ensures { λ r.
+        ⌜ MeshChecked (mesh (now (xs .entry)) (now (hexes .entry)) (now (quads .entry)) (now (segments .entry)) (now (points .entry))) r ⌝ }
+{
+    if words.len() < 8192 {
+        let mut own = [0u32; 8192];
+        return check_cells_with(&mut own, xs, hexes, quads, segments, points);
+    }
+    check_cells_with(words, xs, hexes, quads, segments, points)
+}
+
 // 1 to 8 in order.
 pub fn check_mesh(
     xs: &[i32],
@@ -165,7 +183,20 @@ pub fn check_mesh(
     check_cells(words, xs, hexes, quads, segments, points)
 }
 
-// How many edges there are. Segments by themselves are edges, each its own: no two have one corner set.
+// How many edges there are, with these numbers.
+fn edge_count_with(words: &mut [u32], hexes: &[u32], quads: &[u32], segments: &[u32]) -> usize
+    requires { ⌜ repeatedCorner (topology (mesh [] (now hexes) (now quads) (now segments) [])) ≡ false ⌝ }
+    ensures { λ r. ⌜ r ≡ countIn 1 (now (hexes .entry)) (now (quads .entry)) (now (segments .entry)) ⌝ }
+{
+    let tally = count::count_edges(words, hexes, quads, segments);
+    match tally {
+        Tally::Keys(n) => n,
+        Tally::Full => by_classes::edge_count(words, hexes, quads, segments),
+    }
+}
+
+// How many edges there are; an array of its own serves as above. Segments by themselves are edges, each its own: no two have one corner
+// set.
 fn edge_count(words: &mut [u32], hexes: &[u32], quads: &[u32], segments: &[u32]) -> usize
     requires { ⌜ repeatedCorner (topology (mesh [] (now hexes) (now quads) (now segments) [])) ≡ false ⌝ }
     requires { ⌜ repeats same (map keyOf (cut 2 (now segments))) ≡ false ⌝ }
@@ -174,11 +205,11 @@ fn edge_count(words: &mut [u32], hexes: &[u32], quads: &[u32], segments: &[u32])
     if hexes.len() == 0 && quads.len() == 0 {
         return segments.len() / 2;
     }
-    let tally = count::count_edges(words, hexes, quads, segments);
-    match tally {
-        Tally::Keys(n) => n,
-        Tally::Full => by_classes::edge_count(words, hexes, quads, segments),
+    if words.len() < 8192 {
+        let mut own = [0u32; 8192];
+        return edge_count_with(&mut own, hexes, quads, segments);
     }
+    edge_count_with(words, hexes, quads, segments)
 }
 
 // The sizes of a mesh that passes checks 5 and 6 and whose faces are counted: what its finished counts follow from.

@@ -8,10 +8,9 @@ ghost use mathlib.Core.List.{[], map};
 ghost use Prim.Native.Nat.{_+_, _<_};
 ghost use lib.Dec.{eqb};
 ghost use lib.ListN.{length, getD, take, drop};
-ghost use Rattle.rules.specs.Lists.{any, repeats, cut, upFrom, keyOf, same};
+ghost use Rattle.rules.specs.Lists.{any, repeats, cut, keyOf, same};
 ghost use Rattle.rules.specs.Mesh.{mesh, topology};
 ghost use Rattle.rules.specs.Refusals.{repeatedCorner, mismatched, mismatchedFace};
-ghost use Rattle.checks.specs.Held.{heldIn, isolatedIn};
 ghost use Rattle.checks.specs.Walk.{metIn, countIn};
 
 // Whether two cells have one corner set. Neither names a corner twice.
@@ -176,36 +175,6 @@ pub fn has_mismatched_face(hexes: &[u32], quads: &[u32], segments: &[u32]) -> bo
             return true;
         }
         i += 1;
-    }
-    false
-}
-
-// Whether vertex v is in a cell.
-fn is_held(hexes: &[u32], quads: &[u32], segments: &[u32], points: &[u32], v: u32) -> bool
-    ensures { λ r. ⌜ r ≡ heldIn (now (hexes .entry)) (now (quads .entry)) (now (segments .entry)) (now (points .entry)) v ⌝ }
-{
-    cells::has_number(v, hexes)
-        || (cells::has_number(v, quads)
-            || (cells::has_number(v, segments) || cells::has_number(v, points)))
-}
-
-// Whether one of n vertices is in no cell.
-pub fn has_isolated_vertex(
-    n: u32,
-    hexes: &[u32],
-    quads: &[u32],
-    segments: &[u32],
-    points: &[u32],
-) -> bool
-    ensures { λ r.
-        ⌜ r ≡ any (isolatedIn (now (hexes .entry)) (now (quads .entry)) (now (segments .entry)) (now (points .entry))) (upFrom 0 n) ⌝ }
-{
-    let mut v = 0;
-    while v < n {
-        if !is_held(hexes, quads, segments, points, v) {
-            return true;
-        }
-        v += 1;
     }
     false
 }

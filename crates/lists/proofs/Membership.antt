@@ -4,7 +4,7 @@ use mathlib.Core.Bool.{Bool, true, false, cond}
 use mathlib.Core.Logic.{_⊎_, inl, inr, ⊎-elim}
 use mathlib.Core.List.{List, [], _∷_, _++_, map}
 use Prim.Native.Nat.{ℕ, zero, suc, _+_, _≤_, _<_, zero-le, suc-le-suc}
-use native.Mathlib.Nat.{eq-or-lt-of-le}
+use native.Mathlib.Nat.{eq-or-lt-of-le, zero-add, add-zero}
 use native.Mathlib.Omega.{arith}
 use lib.ListN.{length, getD}
 use Rattle.rules.specs.Lists.{keep, concat, concatMap, upFrom}
@@ -158,6 +158,21 @@ pub length-upFrom : (a n : ℕ) → length (upFrom a n) ≡ n
 unfolding upFrom
 length-upFrom a zero = refl
 length-upFrom a (suc n) = ap suc (length-upFrom (suc a) n)
+
+pub upFrom-append : (a m k : ℕ) → upFrom a (m + k) ≡ upFrom a m ++ upFrom (a + m) k
+unfolding upFrom
+upFrom-append a zero k = rw (zero-add k, add-zero a)
+upFrom-append a (suc m) k =
+    let e : suc m + k ≡ suc (m + k) = omega arith in
+    let f : suc a + m ≡ a + suc m = omega arith in
+    ap (upFrom a) e ∙ ap (λ (l : List ℕ). a ∷ l) (upFrom-append (suc a) m k ∙ ap (λ (b : ℕ). upFrom (suc a) m ++ upFrom b k) f)
+
+pub upFrom-shift : (k a n : ℕ) → upFrom (k + a) n ≡ map (λ (v : ℕ). k + v) (upFrom a n)
+unfolding upFrom
+upFrom-shift k a zero = refl
+upFrom-shift k a (suc n) =
+    let e : suc (k + a) ≡ k + suc a = omega arith in
+    ap (λ (l : List ℕ). (k + a) ∷ l) (ap (λ (b : ℕ). upFrom b n) e ∙ upFrom-shift k (suc a) n)
 
 module _ {A : Type 0} where
   -- f of each number in a row, at a place

@@ -1,63 +1,78 @@
--- `checks::marks::has_isolated_vertex` meets its contract: each table finds the memory as long as it was. Assumes nothing.
-use mathlib.Core.Path.{_≡_, ap, _∙_}
-use lib.ListN.{length, length-replicate}
-use Rattle.checks.proofs.Marking.{isolated-by-marks}
+-- `checks::marks::has_isolated_vertex` meets its contract: window after window. Assumes nothing.
+use mathlib.Core.Path.{_≡_, refl, sym, _∙_}
+use mathlib.Core.List.{_++_}
+use Prim.Native.Nat.{_-_, _<_, _≤_}
+use native.Mathlib.Omega.{arith}
+use lib.ListN.{length, take, drop}
+use lib.Seq.{length-take-le}
+use Rattle.rules.specs.Lists.{any, upFrom}
+use Rattle.checks.specs.Held.{isolatedIn}
+use Rattle.checks.proofs.Slices.{given-back}
+use Rattle.checks.proofs.Scans.{Windowing, window-start, window-hit, window-miss, window-end}
 use Rattle.checks.proofs.marks.has_isolated_vertex.Statement.{statement}
 use Rattle.checks.proofs.marks.has_isolated_vertex.Tie as tie
 
--- the length after clearing, and after each table
-kept : (c : tie.After-clear-u32) → length (c .clear-u32 .last .0) ≡ length (c .before .before .before .before .before .before .before .args .w .now)
-kept c = ap length (c .clear-u32 .ensures) ∙ length-replicate _ 0
+abbrev Inv-loop : tie.InvT-loop
+Inv-loop w₀ n hexes quads segments points first₀ w first =
+    let test = isolatedIn hexes quads segments points in
+    (length w ≡ length w₀) × Windowing test n (any test (upFrom 0 n)) first
 
-kept-1 : (c : tie.After-mark) → length (c .mark .last .0) ≡ length (c .before .before .before .before .before .before .before .before .before .before .before .args .w .now)
-kept-1 c = c .mark .ensures .kept ∙ kept (c .before .before .before .before)
+abbrev μ-loop : tie.MeasureT-loop
+μ-loop w₀ n hexes quads segments points first₀ w first = n - first
 
-kept-2 : (c : tie.After-mark2) → length (c .mark2 .last .0) ≡ length (c .before .before .before .before .before .before .before .before .before .before .before .before .before .before .before .args .w .now)
-kept-2 c = c .mark2 .ensures .kept ∙ kept-1 (c .before .before .before .before)
+-- the window fits the numbers
+size : (c : tie.After-window Inv-loop μ-loop) → length (take (c .window .result) (c .before .before .loop .w)) ≡ c .window .result
+size c = length-take-le (c .window .result) (c .before .before .loop .w) (omega (arith, c .window .ensures))
 
-kept-3 : (c : tie.After-mark3) → length (c .mark3 .last .0) ≡ length (c .before .before .before .before .before .before .before .before .before .before .before .before .before .before .before .before .before .before .before .args .w .now)
-kept-3 c = c .mark3 .ensures .kept ∙ kept-2 (c .before .before .before .before)
+-- and they are as many as before, once it is given back
+kept : (c : tie.After-has-isolated-in-window Inv-loop μ-loop) →
+    let z = c .before .before in
+    let l = z .before .before in
+    length (c .has-isolated-in-window .last .0 ++ drop (z .window .result) (l .loop .w)) ≡ length (l .before .before .before .before .before .before .args .w .now)
+kept c =
+    let z = c .before .before in
+    let l = z .before .before in
+    given-back (z .window .result) (l .loop .w) (c .has-isolated-in-window .last .0) (omega (arith, z .window .ensures)) (c .has-isolated-in-window .kept .0)
+    ∙ l .loop .inv .0
 
-mark-requires : tie.Need-mark-requires
-mark-requires c κs = let s = c .before .before .before .before .before .before .before .before .before .before in rw (kept (c .before .before .before)) (s .pre .0 .0)
+-- what the window says
+tested : (c : tie.After-has-isolated-in-window Inv-loop μ-loop) →
+    let z = c .before .before in
+    let l = z .before .before in
+    let a = l .before .before .before .before .before .before .args in
+    c .has-isolated-in-window .result ≡ any (isolatedIn (a .hexes .now) (a .quads .now) (a .segments .now) (a .points .now)) (upFrom (l .loop .first) (z .window .result))
+tested c = rw (size (c .before .before)) at (c .has-isolated-in-window .ensures)
 
-mark-requires-2 : tie.Need-mark-requires-2
-mark-requires-2 c κs =
-    let s = c .before .before .before .before .before .before .before .before .before .before .before .before .before .before in
-    rw (kept-1 (c .before .before .before)) (s .pre .0 .1)
-
-mark-requires-3 : tie.Need-mark-requires-3
-mark-requires-3 c κs =
-    let s = c .before .before .before .before .before .before .before .before .before .before .before .before .before .before .before .before .before .before in
-    rw (kept-2 (c .before .before .before)) (s .pre .1 .0)
-
-mark-requires-4 : tie.Need-mark-requires-4
-mark-requires-4 c κs =
-    let s = c .before .before .before .before .before .before .before .before .before .before .before .before .before .before .before .before .before .before .before .before .before .before in
-    rw (kept-3 (c .before .before .before)) (s .pre .1 .1)
-
-same-length : tie.Need-same-length
-same-length c = let d = c .before .before .before .before in d .mark4 .ensures .kept ∙ kept-3 (d .before .before .before .before)
-
-returns : tie.Need-returns
+returns : tie.Need-returns Inv-loop μ-loop
 returns c =
-    let d = c .before .before .before .before in
-    let e = d .before .before .before .before in
-    let f = e .before .before .before .before in
-    let g = f .before .before .before .before in
-    let h = g .before .before .before .before in
-    let s = h .before .before .before .before .before .before .before in
-    c .has-zero .ensures ∙ isolated-by-marks (length (s .args .w .now)) (h .clear-u32 .ensures) (g .mark .ensures) (f .mark2 .ensures) (e .mark3 .ensures) (d .mark4 .ensures)
+    let t = c .before .before .before in
+    let z = t .before .before in
+    let l = z .before .before in
+    window-hit _ _ (l .loop .inv .1) (z .window .result) (omega (arith, z .window .ensures)) (sym (tested t) ∙ c .if1 .taken)
+
+loop-again : tie.Need-loop-again Inv-loop μ-loop
+loop-again c =
+    let t = c .before .before .before in
+    let z = t .before .before in
+    let l = z .before .before in
+    (kept t, window-miss _ _ (l .loop .inv .1) (z .window .result) (omega (arith, z .window .ensures)) (sym (tested t) ∙ c .if1 .left))
 
 pub has-isolated-vertex-spec : {M : Type 1} → statement M
 has-isolated-vertex-spec =
     tie.close
     (tie.spec
+    Inv-loop
+    μ-loop
+    (λ c. (refl, window-start _ _))
+    (λ c. omega arith)
+    (λ c κs. (omega arith, omega (arith, c .before .loop .inv .0, c .before .before .before .before .before .before .before .pre)))
+    (λ c. omega (arith, c .window .ensures))
+    (λ c. sym (size (c .before)))
     (λ c κs. tt)
-    mark-requires
-    mark-requires-2
-    mark-requires-3
-    mark-requires-4
-    (λ c κs. tt)
-    same-length
-    returns)
+    (λ c. kept (c .before .before .before))
+    returns
+    (λ c. let z = c .before .before .before .before .before in omega (arith, z .window .ensures, z .before .before .before .before .before .before .before .before .fits .n))
+    (λ c. let z = c .before .before .before .before .before in omega (arith, z .window .ensures))
+    loop-again
+    (λ c. c .before .loop .inv .0)
+    (λ c. window-end _ _ (c .before .loop .inv .1) (c .loop-test .left)))

@@ -1,4 +1,4 @@
--- `checks::check_cells` meets its contract: each return rewrites with the tests that led there. Assumes nothing.
+-- `checks::check_cells_with` meets its contract: each return rewrites with the tests that led there. Assumes nothing.
 use mathlib.Core.Path.{_≡_, refl, sym, _∙_}
 use mathlib.Core.Bool.{false}
 use mathlib.Core.List.{[]}
@@ -11,14 +11,14 @@ use Rattle.checks.specs.Walk.{countIn}
 use Rattle.checks.proofs.ByKind.{fewer-tables, mismatched-tables}
 use Rattle.checks.proofs.Passed.{TablesPass, tables-pass, cells-decide, refused-is, faces-match, faces-mismatch}
 use Rattle.checks.proofs.WalkLaws.{count-mesh}
-use Rattle.checks.proofs.check_cells.Statement.{statement}
-use Rattle.checks.proofs.check_cells.Tie as tie
+use Rattle.checks.proofs.check_cells_with.Statement.{statement}
+use Rattle.checks.proofs.check_cells_with.Tie as tie
 
 abbrev meshOf : tie.Start → Mesh
 meshOf s = mesh (s .args .xs .now) (s .args .hexes .now) (s .args .quads .now) (s .args .segments .now) (s .args .points .now)
 
 passed : (s : tie.Start) → TablesPass (meshOf s)
-passed s = tables-pass (meshOf s) (s .pre)
+passed s = tables-pass (meshOf s) (s .pre .1)
 
 -- ---- 5 passes
 
@@ -93,7 +93,11 @@ counted-7 c =
     faces-match (a .hexes .now) (a .quads .now) (a .segments .now) (f .check-faces .result) (c .before .met .given .1) (f .check-faces .ensures)
 
 has-isolated-vertex-requires : tie.Need-has-isolated-vertex-requires
-has-isolated-vertex-requires c κs = let p = passed (start-7 (c .before)) in (p .whole, (p .counts, p .known))
+has-isolated-vertex-requires c κs =
+    let f = faces-7 (c .before) in
+    let d = before-7 f .before .before .before in
+    let s = start-7 (c .before) in
+    (omega (arith, f .check-faces .kept .0, d .has-duplicate-cell .kept .0, s .pre .0), passed s .whole)
 
 -- ---- 8
 
@@ -136,8 +140,8 @@ returns-5 c =
       faces = λ z. counted-7 k .1 ∙ count-mesh 2 (lit< tt) (meshOf s);
     }
 
-pub check-cells-spec : {M : Type 1} → statement M
-check-cells-spec =
+pub check-cells-with-spec : {M : Type 1} → statement M
+check-cells-with-spec =
     tie.close
     (tie.spec
     (λ c κs. search needs)
