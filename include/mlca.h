@@ -119,8 +119,8 @@ mlca_millimetres_answer mlca_millimetres(int32_t x, int32_t y, int32_t z);
        rounds too.
    Time: the checks are near-linear where numbers32 has also 1 + max(V, 48 H + 16 Q + 4 S, 3 P) places for the mesh
        before the rounds, which 8 for each finished vertex nearly always are from one round on. With k times fewer they
-       go over the edges, faces or cells about k times; with less than about a 1000th, as where very many cells stand on
-       very few vertices, they compare each with each other, which may take long. The answer is the same. */
+       go over the edges, faces, cells or vertices about k times. Where fewer than 8192 numbers are lent, an array of that
+       many on the stack serves instead. The answer is the same. */
 mlca_counts_answer mlca_refine_tables(
     const int32_t *vertices, size_t vertices_len,
     const uint32_t *hexes, size_t hexes_len,
@@ -175,8 +175,8 @@ mlca_count_answer mlca_write_tables(
    Checks: 1 to 8.
    numbers: may hold anything before; all zero after, refused or not.
    Lend: any length gives the same answer, 0 included. The call is near-linear with
-       max(2 V, 1 + 42 H + 7 Q, 1 + 4 S, 1 + 3 P) numbers. With fewer than 2 V each vertex is looked for in all tables;
-       for the checks see mlca_refine_tables. */
+       max(2 V, 1 + 42 H + 7 Q, 1 + 4 S, 1 + 3 P) numbers. With k times fewer the tables are walked about k times; fewer
+       than 8192 are as above. */
 mlca_count_answer mlca_irregular_count_tables(
     const int32_t *vertices, size_t vertices_len,
     const uint32_t *hexes, size_t hexes_len,

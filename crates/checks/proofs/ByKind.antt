@@ -92,10 +92,6 @@ no-kind p h κ =
 pub no-repeats : (m : Mesh) → repeatedCorner (topology m) ≡ false → (κ : Kind) → any (repeats eqb) (cut (corners κ) (tableOf m κ)) ≡ false
 no-repeats m h κ = no-kind (λ (κ : Kind). any (repeats eqb) (cut (corners κ) (tableOf m κ))) (sym (repeat-tables m) ∙ h) κ
 
-pub no-corners : (m : Mesh) → partialEntry m ≡ false → cornerOutOfRange (topology m) ≡ false → (κ : Kind)
-    → any (leb (length (m .vertices) / 3)) (tableOf m κ) ≡ false
-no-corners m w h κ = no-kind (λ (κ : Kind). any (leb (length (m .vertices) / 3)) (tableOf m κ)) (sym (corner-tables m w) ∙ h) κ
-
 -- 6, by table
 pub duplicate-tables : (m : Mesh) → duplicateCell (topology m) ≡ eachKind (λ (κ : Kind). repeats same (map keyOf (cut (corners κ) (tableOf m κ))))
 unfolding duplicateCell topology

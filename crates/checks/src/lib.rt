@@ -3,10 +3,10 @@
 // Rests on `numbering` (tables of keys in lent memory) and on the laws of `lists` and `soundness`. Promises: each check is an equation with
 // its test of `rules`, and the first that fails is the refusal. Checks 6 to 8 and the sizes take lent numbers, and the answer never depends
 // on how many there are. They are near-linear with `1 + max(V, 10 H, 6 Q, 4 S, 3 P, 7 (6 H + Q))` numbers, for V vertices, H hexes, Q quads,
-// S segments and P points, and the sizes with `1 + 4 (12 H + 4 Q + S)`; fewer are enough where cells share parts. With k times fewer, checks
-// 6 and 7 and the sizes look at the keys class by class, in about k passes where the classes come out even. With less than about a 1000th,
-// or with none, they compare each cell or part with each other one; so does check 8 with less than V. What the lent numbers hold afterwards is
-// left free.
+// S segments and P points, and the sizes with `1 + 4 (12 H + 4 Q + S)`; fewer are enough where cells share parts. With k times fewer they
+// walk the tables about k times: checks 6 and 7 and the sizes class by class, check 8 window by window. Where fewer than 8192 are lent, an
+// array of 8192 numbers on the stack serves instead. Only where that is too little for 1024 classes each cell or part is compared with each
+// other one. What the lent numbers hold afterwards is left free.
 use numbering::count;
 use numbering::parts::Parts;
 use numbering::parts::Tally;
@@ -34,9 +34,9 @@ pub mod cells;
 pub mod classes;
 // The corner across a face's least corner.
 pub mod faces;
-// Check 8 with a mark for each vertex.
+// Check 8 by marks, in windows of vertices.
 pub mod marks;
-// Checks 6 to 8 and the counts of parts with no memory.
+// Checks 6 and 7 and the counts of parts with no memory.
 pub mod pairwise;
 // The edges and faces by number.
 pub mod parts;

@@ -11,7 +11,7 @@ use Rattle.rules.specs.Lists.{keep, upFrom, has}
 use Rattle.lists.proofs.Membership.{in-upFrom}
 use Rattle.irregular.specs.Times.{times, irregularBy, irregularIn}
 use Rattle.irregular.specs.Tallied.{depth, Ranked, Counted, unusual}
-use Rattle.irregular.proofs.Keeping.{keep-same}
+use Rattle.irregular.proofs.Keeping.{keep-same, keep-shift}
 use Rattle.irregular.proofs.Valences.{has-times}
 
 -- by the counts of a vertex: p, s, q and h
@@ -49,7 +49,7 @@ depth-below false false false = lit< tt
 
 -- ---- the memory, from the start
 
-module _ (n k : ℕ) (h : 2 * n ≤ k) (w : List ℕ) (start : w ≡ replicate k 0) where
+module _ (first n k : ℕ) (h : 2 * n ≤ k) (w : List ℕ) (start : w ≡ replicate k 0) where
   pub zeros-kept : length w ≡ k
   zeros-kept = ap length start ∙ length-replicate k 0
 
@@ -60,11 +60,11 @@ module _ (n k : ℕ) (h : 2 * n ≤ k) (w : List ℕ) (start : w ≡ replicate k
   front-zero v l e = getD-take n w v 0 (omega arith) ∙ zero-at v (omega arith)
 
   -- the ranks are marked
-  module _ {qs ss ps ys : List ℕ} (e : length ys ≡ n) (r : Ranked qs ss ps ys) where
+  module _ {qs ss ps ys : List ℕ} (e : length ys ≡ n) (r : Ranked first qs ss ps ys) where
     pub marked-kept : length (ys ++ drop n w) ≡ k
     marked-kept = length-append ys (drop n w) ∙ omega (arith, length-drop n w, zeros-kept)
 
-    pub marked-ranks : (v : ℕ) → v < n → getD (ys ++ drop n w) v 0 ≡ depth qs ss ps v
+    pub marked-ranks : (v : ℕ) → v < n → getD (ys ++ drop n w) v 0 ≡ depth qs ss ps (first + v)
     marked-ranks v l = List·getD-append ys (drop n w) 0 v (omega arith) ∙ r .ranks v (omega arith)
 
     pub marked-counts : (v : ℕ) → v < n → getD (ys ++ drop n w) (n + v) 0 ≡ 0
@@ -75,23 +75,25 @@ module _ (n k : ℕ) (h : 2 * n ≤ k) (w : List ℕ) (start : w ≡ replicate k
         ∙ zero-at (n + v) (omega arith)
 
     -- and the corners are counted
-    module _ {hs new : List ℕ} (c : Counted n hs qs ss ps (ys ++ drop n w) new) where
+    module _ {hs new : List ℕ} (c : Counted first n hs qs ss ps (ys ++ drop n w) new) where
       pub finished-kept : length new ≡ k
       finished-kept = c .kept ∙ marked-kept
 
       pub finished-ranks : (v : ℕ) → v < n → getD new v 0 < 4
-      finished-ranks v l = rw (c .ranks v l, marked-ranks v l) (depth-below (has v ps) (has v ss) (has v qs))
+      finished-ranks v l = rw (c .ranks v l, marked-ranks v l) (depth-below (has (first + v) ps) (has (first + v) ss) (has (first + v) qs))
 
-      unusual-is : (v : ℕ) → v < n → unusual n new v ≡ irregularIn hs qs ss ps v
+      unusual-is : (v : ℕ) → v < n → unusual n new v ≡ irregularIn hs qs ss ps (first + v)
       unusual-is v l =
           rw (
             c .counts v l,
             c .ranks v l,
             marked-ranks v l,
-            has-times v ps,
-            has-times v ss,
-            has-times v qs,
-          ) (usual (times v ps) (times v ss) (times v qs) (times v hs))
+            has-times (first + v) ps,
+            has-times (first + v) ss,
+            has-times (first + v) qs,
+          ) (usual (times (first + v) ps) (times (first + v) ss) (times (first + v) qs) (times (first + v) hs))
 
-      pub finished-count : length (keep (unusual n new) (upFrom 0 n)) ≡ length (keep (irregularIn hs qs ss ps) (upFrom 0 n))
-      finished-count = ap length (keep-same (unusual n new) (irregularIn hs qs ss ps) (upFrom 0 n) (λ v i. unusual-is v (omega (arith, in-upFrom 0 n v i))))
+      pub finished-count : length (keep (unusual n new) (upFrom 0 n)) ≡ length (keep (irregularIn hs qs ss ps) (upFrom first n))
+      finished-count =
+          ap length (keep-same (unusual n new) (λ (v : ℕ). irregularIn hs qs ss ps (first + v)) (upFrom 0 n) (λ v i. unusual-is v (omega (arith, in-upFrom 0 n v i))))
+          ∙ keep-shift (irregularIn hs qs ss ps) first n

@@ -2,19 +2,17 @@
 //
 // Rests on `checks` for the refusals 1 to 8. Promises the whole answer for each mesh and leaves the lent numbers all zero. The answer
 // never depends on how many there are. With `max(2 V, N)` of them the call is near-linear, for V vertices and the N numbers that make
-// the checks near-linear (see `checks`); with fewer than 2 V each vertex is looked for in all tables.
+// the checks near-linear (see `checks`); with k times fewer than 2 V the tables are walked k times.
 use rules::CountAnswer;
 ghost use mathlib.Core.Path.{_≡_};
 ghost use Rattle.rules.specs.Mesh.{mesh, topology};
 ghost use Rattle.rules.specs.Refusals.{meshChecks};
 ghost use Rattle.rules.specs.EntryPoints.{cleared, irregularCount, irregularAnswer};
 
-// Vertex by vertex, with no memory.
-mod single;
-// With two lent numbers a vertex.
+// With two lent numbers for each vertex of a window.
 mod tallies;
 
-// The count, of a mesh that passes the checks.
+// The count, of a mesh that passes the checks. Where next to nothing is lent, an array of its own serves instead.
 fn count(
     xs: &[i32],
     hexes: &[u32],
@@ -29,10 +27,11 @@ fn count(
         (mesh (now (xs .entry)) (now (hexes .entry)) (now (quads .entry)) (now (segments .entry)) (now (points .entry)))) ⌝ }
 {
     let n = xs.len() / 3;
-    if 2 * n <= words.len() {
-        return tallies::count(words, n, hexes, quads, segments, points);
+    if words.len() < 8192 {
+        let mut own = [0u32; 8192];
+        return tallies::count(&mut own, n, hexes, quads, segments, points);
     }
-    single::count(n as u32, hexes, quads, segments, points)
+    tallies::count(words, n, hexes, quads, segments, points)
 }
 
 // How many vertices are irregular.

@@ -1,4 +1,4 @@
--- `irregular::count` meets its contract: in the lent numbers, or vertex by vertex. Assumes nothing.
+-- `irregular::count` meets its contract: with the lent numbers, or with its own. Assumes nothing.
 use mathlib.Core.Path.{_≡_, sym, _∙_}
 use Prim.Native.Nat.{_+_, _/_, _<_, _^_}
 use native.Mathlib.Omega.{arith}
@@ -8,8 +8,8 @@ use Rattle.rules.specs.Lists.{keep, upFrom}
 use Rattle.rules.specs.Mesh.{Mesh, hex, quad, segment, point, mesh, topology}
 use Rattle.rules.specs.EntryPoints.{irregularCount}
 use Rattle.soundness.specs.Accepted.{Accepted}
-use Rattle.soundness.proofs.Checks.{checks-accept, no-corner-out-of-range, no-repeated-corner}
-use Rattle.checks.proofs.ByKind.{whole-tables, no-corners}
+use Rattle.soundness.proofs.Checks.{checks-accept, no-repeated-corner}
+use Rattle.checks.proofs.ByKind.{whole-tables}
 use Rattle.checks.proofs.Passed.{counts-few}
 use Rattle.irregular.specs.Times.{irregularIn}
 use Rattle.irregular.proofs.Valences.{count-by}
@@ -34,18 +34,16 @@ by : (s : tie.Start) → let m = meshOf s in irregularCount (topology m) ≡ len
 by s = let a = accepted s in count-by (meshOf s) (a .entire) (no-repeated-corner (topology (meshOf s)) (a .sound))
 
 count-requires : tie.Need-count-requires
-count-requires c κs =
-    let d = c .before in
-    let s = d .before .before .before .before .before .before in
-    let a = accepted s in
-    let below = no-corners (meshOf s) (a .entire) (no-corner-out-of-range (topology (meshOf s)) (a .sound)) in
-    (d .if1 .taken, ((below hex, below quad), ((below segment, below point), short (meshOf s) a)))
+count-requires c κs = let s = c .before .before .before .before .before .before .before in (omega arith, short (meshOf s) (accepted s))
 
 returns : tie.Need-returns
-returns c = let t = c .before .before in t .count .ensures ∙ sym (by (t .before .before .before .before .before .before .before .before))
+returns c = let t = c .before in t .count .ensures ∙ sym (by (t .before .before .before .before .before .before .before .before))
+
+count-requires-2 : tie.Need-count-requires-2
+count-requires-2 c κs = let s = c .before .before .before .before .before .before .before in (omega (arith, c .before .if1 .left), short (meshOf s) (accepted s))
 
 returns-2 : tie.Need-returns-2
-returns-2 c = c .count2 .ensures ∙ sym (by (c .before .before .before .before .before .before .before))
+returns-2 c = let t = c .before .before in t .count2 .ensures ∙ sym (by (t .before .before .before .before .before .before .before .before))
 
 pub count-spec : {M : Type 1} → statement M
 count-spec =
@@ -53,8 +51,7 @@ count-spec =
     (tie.spec
     (λ c. search needs)
     count-requires
-    (λ c. search needs)
     returns
-    (λ c. let s = c .before .before .before .before .before .before in omega (arith, counts-few (meshOf s) (accepted s .counted) .vertices))
-    (λ c κs. search needs)
+    count-requires-2
+    (λ c. search needs)
     returns-2)

@@ -1,78 +1,54 @@
--- `irregular::tallies::count` meets its contract: cleared, ranked, counted, looked through. Assumes nothing.
-use mathlib.Core.Path.{_≡_, sym, _∙_}
+-- `irregular::tallies::count` meets its contract: window after window. Assumes nothing.
+use mathlib.Core.Path.{_≡_, refl, _∙_}
+use Prim.Native.Nat.{_+_, _-_}
 use native.Mathlib.Omega.{arith}
-use borrow.Author.Needs.{needs}
-use lib.ListN.{length, take}
-use lib.Seq.{length-take-le}
-use Rattle.irregular.proofs.Finished.{zeros-kept, front-zero, marked-kept, marked-counts, finished-kept, finished-ranks, finished-count}
+use lib.ListN.{length}
+use Rattle.irregular.specs.Times.{irregularIn}
+use Rattle.irregular.proofs.Keeping.{Windowing, window-start, window-few, window-turn, window-end}
 use Rattle.irregular.proofs.tallies.count.Statement.{statement}
 use Rattle.irregular.proofs.tallies.count.Tie as tie
 
-kept : (c : tie.After-clear-u32) → length (c .clear-u32 .last .0) ≡ length (c .before .before .before .before .before .before .before .args .w .now)
-kept c = let s = c .before .before .before .before .before .before .before in zeros-kept (s .args .n) (length (s .args .w .now)) (s .pre .0) (c .clear-u32 .last .0) (c .clear-u32 .ensures)
+abbrev Inv-loop : tie.InvT-loop
+Inv-loop w₀ n hexes quads segments points count₀ first₀ w count first =
+    (length w ≡ length w₀) × Windowing (irregularIn hexes quads segments points) n first count
 
--- the part that the ranks are marked in
-size : (c : tie.After-clear-u32) → length (take (c .before .before .before .before .before .before .before .args .n) (c .clear-u32 .last .0)) ≡ c .before .before .before .before .before .before .before .args .n
-size c = let s = c .before .before .before .before .before .before .before in length-take-le (s .args .n) (c .clear-u32 .last .0) (omega (arith, kept c, s .pre .0))
+abbrev μ-loop : tie.MeasureT-loop
+μ-loop w₀ n hexes quads segments points count₀ first₀ w count first = n - first
 
-mark-ranks-requires : tie.Need-mark-ranks-requires
-mark-ranks-requires c κs =
-    let z = c .before .before .before in
-    let s = z .before .before .before .before .before .before .before in
-    let n = s .args .n in (
-      rw (size z) (s .pre .1 .0 .1),
-      (
-        (rw (size z) (s .pre .1 .1 .0 .0), rw (size z) (s .pre .1 .1 .0 .1)),
-        λ v l. front-zero n (length (s .args .w .now)) (s .pre .0) (z .clear-u32 .last .0) (z .clear-u32 .ensures) v l (size z),
-      ),
-    )
+abbrev counted : tie.After-slice-known2 Inv-loop μ-loop → tie.After-count-in-window Inv-loop μ-loop
+counted c = c .before .before
 
--- how many ranks were marked
-marked : (c : tie.After-mark-ranks) → length (c .mark-ranks .last .0) ≡ c .before .before .before .before .before .before .before .before .before .before .before .args .n
-marked c = c .mark-ranks .kept .0 ∙ size (c .before .before .before .before)
+abbrev sized : tie.After-slice-known2 Inv-loop μ-loop → tie.After-window Inv-loop μ-loop
+sized c = counted c .before .before
 
-tally-all-requires : tie.Need-tally-all-requires
-tally-all-requires c κs =
-    let r = c .before .before .before in
-    let z = r .before .before .before .before in
-    let s = z .before .before .before .before .before .before .before in
-    let n = s .args .n in
-    let k = length (s .args .w .now) in
-    let w = z .clear-u32 .last .0 in
-    let all = marked-kept n k (s .pre .0) w (z .clear-u32 .ensures) (marked r) (r .mark-ranks .ensures) in
-    (rw all (s .pre .0), (s .pre .1 .0, (s .pre .1 .1 .0, (s .pre .1 .1 .1, marked-counts n k (s .pre .0) w (z .clear-u32 .ensures) (marked r) (r .mark-ranks .ensures)))))
+abbrev turn : tie.After-slice-known2 Inv-loop μ-loop → tie.In-loop Inv-loop μ-loop
+turn c = sized c .before
 
-count-unusual-requires : tie.Need-count-unusual-requires
-count-unusual-requires c κs =
-    let t = c .before .before .before in
-    let r = t .before .before .before .before in
-    let z = r .before .before .before .before in
-    let s = z .before .before .before .before .before .before .before in
-    let n = s .args .n in
-    let k = length (s .args .w .now) in
-    let w = z .clear-u32 .last .0 in
-    let all = finished-kept n k (s .pre .0) w (z .clear-u32 .ensures) (marked r) (r .mark-ranks .ensures) (t .tally-all .ensures) in
-    (rw all (s .pre .0), finished-ranks n k (s .pre .0) w (z .clear-u32 .ensures) (marked r) (r .mark-ranks .ensures) (t .tally-all .ensures))
+-- the next window is counted
+more : (c : tie.After-slice-known2 Inv-loop μ-loop) →
+    let l = turn c .before in
+    let a = l .before .before .before .before .before .before .args in
+    Windowing (irregularIn (a .hexes .now) (a .quads .now) (a .segments .now) (a .points .now)) (a .n) (l .loop .first + sized c .window .result) (l .loop .count + counted c .count-in-window .result)
+more c =
+    let l = turn c .before in
+    window-turn _ _ (l .loop .inv .1) (sized c .window .result) (counted c .count-in-window .result) (omega (arith, sized c .window .ensures)) (counted c .count-in-window .ensures)
 
-returns : tie.Need-returns
-returns c =
-    let t = c .before .before .before .before in
-    let r = t .before .before .before .before in
-    let z = r .before .before .before .before in
-    let s = z .before .before .before .before .before .before .before in
-    let n = s .args .n in
-    let k = length (s .args .w .now) in
-    c .count-unusual .ensures ∙ finished-count n k (s .pre .0) (z .clear-u32 .last .0) (z .clear-u32 .ensures) (marked r) (r .mark-ranks .ensures) (t .tally-all .ensures)
+loop-again : tie.Need-loop-again Inv-loop μ-loop
+loop-again c = (counted c .count-in-window .kept .0 ∙ turn c .before .loop .inv .0, more c)
 
 pub count-spec : {M : Type 1} → statement M
 count-spec =
     tie.close
     (tie.spec
-    (λ c κs. search needs)
-    (λ c. let z = c .before .before in omega (arith, kept z, z .before .before .before .before .before .before .before .pre .0))
-    (λ c. sym (size (c .before .before .before)))
-    mark-ranks-requires
-    tally-all-requires
-    count-unusual-requires
-    (λ c. search needs)
-    returns)
+    Inv-loop
+    μ-loop
+    (λ c. (refl, window-start _ _))
+    (λ c. omega arith)
+    (λ c κs. (omega arith, omega (arith, c .before .loop .inv .0, c .before .before .before .before .before .before .before .pre .0)))
+    (λ c κs. (omega (arith, c .before .window .ensures), c .before .before .before .before .before .before .before .before .before .pre .1))
+    (λ c. omega (arith, window-few _ _ (more c), more c .below, turn c .before .before .before .before .before .before .before .fits .n))
+    (λ c. omega (arith, more c .below, turn c .before .before .before .before .before .before .before .fits .n))
+    (λ c. omega (arith, sized c .window .ensures))
+    loop-again
+    (λ c. c .before .loop .inv .0)
+    (λ c. window-end _ _ (c .before .loop .inv .1) (c .loop-test .left)))
