@@ -2,7 +2,8 @@
 
 use super::Comparison;
 use crate::checks::check_refining;
-use crate::generate::{damage, lent, small_mesh, wild};
+use crate::entries::Lent;
+use crate::generate::{creases, damage, lattice, lent, relabel, small_mesh, wild};
 use crate::mesh::Mesh;
 use crate::random::Random;
 use crate::samples::*;
@@ -82,5 +83,23 @@ fn each_working_length(comparison: &mut Comparison, mesh: &Mesh, rounds: u32, ra
         let mut lengths = lent::needed_lengths(places);
         lengths[10] = length;
         comparison.refine(mesh, rounds, &lent::with_lengths(lengths, random));
+    }
+}
+
+/// More vertices and faces than the numbers hold, from none to enough: the checks walk the tables several times, and the length alters no result.
+pub fn large_in_short_memory(comparison: &mut Comparison) {
+    for (case, kind) in [0, 6, 7, 8].into_iter().enumerate() {
+        let mut random = Random::new(4_500_000 + case as u64);
+        let mut mesh = lattice::blocks([24, 24, 16], || true);
+        creases::add_creases(&mut mesh, &mut random);
+        if kind > 0 {
+            damage::damage(&mut mesh, kind, &mut random);
+        }
+        relabel::relabel(&mut mesh, &mut random);
+        for length in [0, 1, 8191, 8192, 8193, 20_000, 100_000] {
+            let working = lent::noisy_numbers(length, &mut random);
+            comparison.irregular_count(&mesh, &working);
+            comparison.refine(&mesh, 1, &Lent { numbers32: working, ..Lent::default() });
+        }
     }
 }

@@ -31,7 +31,7 @@ pub struct Comparison<'a> {
 pub type Group = fn(&mut Comparison);
 
 /// The groups of cases by name.
-pub const GROUPS: [(&str, Group); 18] = [
+pub const GROUPS: [(&str, Group); 19] = [
     ("samples", refining::samples),
     ("valid meshes", refining::valid_meshes),
     ("damaged meshes", refining::damaged_meshes),
@@ -41,6 +41,7 @@ pub const GROUPS: [(&str, Group); 18] = [
     ("every length of tables to read into", stored::every_length),
     ("every length on the C path", c_path::every_length),
     ("checks in short memory", memory::checks_in_short_memory),
+    ("large meshes in short memory", memory::large_in_short_memory),
     ("irregular counts", counting::irregular_counts),
     ("millimetres", counting::millimetres),
     ("reading", stored::reading),
