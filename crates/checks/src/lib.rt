@@ -4,9 +4,9 @@
 // its test of `rules`, and the first that fails is the refusal. Checks 6 to 8 and the sizes take lent numbers, and the answer never depends
 // on how many there are. They are near-linear with `1 + max(V, 10 H, 6 Q, 4 S, 3 P, 7 (6 H + Q))` numbers, for V vertices, H hexes, Q quads,
 // S segments and P points, and the sizes with `1 + 4 (12 H + 4 Q + S)`; fewer are enough where cells share parts. With k times fewer they
-// walk the tables about k times: checks 6 and 7 and the sizes class by class, check 8 window by window. Where fewer than 8192 are lent, an
-// array of 8192 numbers on the stack serves instead. Only where that is too little for 1024 classes each cell or part is compared with each
-// other one. What the lent numbers hold afterwards is left free.
+// walk the tables about k times: checks 6 and 7 and the sizes class by class, check 8 window by window. Where fewer than 8192 are lent and do
+// not do, an array of 8192 numbers on the stack serves instead. Only where that is too little for 1024 classes, each cell or part is
+// compared with each other one. What the lent numbers hold afterwards is left free.
 use numbering::count;
 use numbering::parts::Parts;
 use numbering::parts::Tally;
@@ -14,7 +14,7 @@ use rules::Sizes;
 ghost use mathlib.Core.Path.{_≡_};
 ghost use mathlib.Core.Bool.{false};
 ghost use mathlib.Core.List.{[], map};
-ghost use Prim.Native.Nat.{_<_};
+ghost use Prim.Native.Nat.{_≤_, _<_};
 ghost use lib.Dec.{eqb};
 ghost use lib.ListN.{length};
 ghost use Rattle.rules.specs.Lists.{any, repeats, cut, keyOf, same};
@@ -144,7 +144,15 @@ fn check_cells_with(
     Checked { refusal: 0, faces }
 }
 
-// 5 to 8 in order. Where next to nothing is lent, an array of its own serves instead.
+// Whether an array of 8192 numbers serves better than so many lent ones: these are fewer, and may not hold the edges and faces of cells with
+// so many corners.
+pub fn is_little(words: usize, corners: usize) -> bool
+    ensures { λ r. ⌜ (r ≡ false → 6 ≤ words) ⌝ }
+{
+    words < 8192 && words / 6 <= corners
+}
+
+// 5 to 8 in order. Where little is lent, an array of its own serves instead.
 fn check_cells(
     words: &mut [u32],
     xs: &[i32],
@@ -157,7 +165,8 @@ fn check_cells(
     ensures { λ r.
         ⌜ MeshChecked (mesh (now (xs .entry)) (now (hexes .entry)) (now (quads .entry)) (now (segments .entry)) (now (points .entry))) r ⌝ }
 {
-    if words.len() < 8192 {
+    let corners = hexes.len() + (quads.len() + (segments.len() + points.len()));
+    if is_little(words.len(), corners) {
         let mut own = [0u32; 8192];
         return check_cells_with(&mut own, xs, hexes, quads, segments, points);
     }
@@ -205,7 +214,8 @@ fn edge_count(words: &mut [u32], hexes: &[u32], quads: &[u32], segments: &[u32])
     if hexes.len() == 0 && quads.len() == 0 {
         return segments.len() / 2;
     }
-    if words.len() < 8192 {
+    let corners = hexes.len() + (quads.len() + segments.len());
+    if is_little(words.len(), corners) {
         let mut own = [0u32; 8192];
         return edge_count_with(&mut own, hexes, quads, segments);
     }

@@ -12,7 +12,7 @@ ghost use Rattle.rules.specs.EntryPoints.{cleared, irregularCount, irregularAns
 // With two lent numbers for each vertex of a window.
 mod tallies;
 
-// The count, of a mesh that passes the checks. Where next to nothing is lent, an array of its own serves instead.
+// The count, of a mesh that passes the checks. Where little is lent, an array of its own serves instead.
 fn count(
     xs: &[i32],
     hexes: &[u32],
@@ -27,7 +27,8 @@ fn count(
         (mesh (now (xs .entry)) (now (hexes .entry)) (now (quads .entry)) (now (segments .entry)) (now (points .entry)))) ⌝ }
 {
     let n = xs.len() / 3;
-    if words.len() < 8192 {
+    let corners = hexes.len() + (quads.len() + (segments.len() + points.len()));
+    if checks::is_little(words.len(), corners) {
         let mut own = [0u32; 8192];
         return tallies::count(&mut own, n, hexes, quads, segments, points);
     }

@@ -17,6 +17,9 @@ edge-count-spec =
     (tie.spec
     returns
     (λ c. search needs)
+    (λ c. search needs)
+    (λ c κs. search needs)
+    (λ c. search needs)
     (λ c κs. search needs)
     (λ c. search needs)
     (λ c κs. search needs)

@@ -34,21 +34,29 @@ by : (s : tie.Start) → let m = meshOf s in irregularCount (topology m) ≡ len
 by s = let a = accepted s in count-by (meshOf s) (a .entire) (no-repeated-corner (topology (meshOf s)) (a .sound))
 
 count-requires : tie.Need-count-requires
-count-requires c κs = let s = c .before .before .before .before .before .before .before in (omega arith, short (meshOf s) (accepted s))
+count-requires c κs = let s = c .before .before .before .before .before .before .before .before in (omega arith, short (meshOf s) (accepted s))
 
 returns : tie.Need-returns
-returns c = let t = c .before in t .count .ensures ∙ sym (by (t .before .before .before .before .before .before .before .before))
+returns c = let t = c .before in t .count .ensures ∙ sym (by (t .before .before .before .before .before .before .before .before .before))
 
 count-requires-2 : tie.Need-count-requires-2
-count-requires-2 c κs = let s = c .before .before .before .before .before .before .before in (omega (arith, c .before .if1 .left), short (meshOf s) (accepted s))
+count-requires-2 c κs =
+    let e = c .before in
+    let l = e .before in
+    let s = l .before .before .before .before .before .before in
+    (omega (arith, l .is-little .ensures (e .if1 .left)), short (meshOf s) (accepted s))
 
 returns-2 : tie.Need-returns-2
-returns-2 c = let t = c .before .before in t .count2 .ensures ∙ sym (by (t .before .before .before .before .before .before .before .before))
+returns-2 c = let t = c .before .before in t .count2 .ensures ∙ sym (by (t .before .before .before .before .before .before .before .before .before))
 
 pub count-spec : {M : Type 1} → statement M
 count-spec =
     tie.close
     (tie.spec
+    (λ c. search needs)
+    (λ c. search needs)
+    (λ c. search needs)
+    (λ c κs. search needs)
     (λ c. search needs)
     count-requires
     returns
