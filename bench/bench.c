@@ -25,6 +25,8 @@ static int disagreements;
 static __typeof__(&baseline_refine_tables) const refine_tables[2] = { baseline_refine_tables, KERNEL(refine_tables) };
 static __typeof__(&baseline_read_tables) const read_tables[2] = { baseline_read_tables, KERNEL(read_tables) };
 static __typeof__(&baseline_write_tables) const write_tables[2] = { baseline_write_tables, KERNEL(write_tables) };
+static __typeof__(&baseline_irregular_count_tables) const count_irregular[2] = { baseline_irregular_count_tables,
+                                                                                  KERNEL(irregular_count_tables) };
 
 #define SLICES(t) \
     (t).vertices, (t).vertices_len, (t).cells[HEX], (t).cells_len[HEX], (t).cells[QUAD], (t).cells_len[QUAD], \
@@ -142,6 +144,26 @@ static void bench_stored(const char *name, const struct tables *mesh)
     }
 }
 
+/* Irregular counts with so many working numbers lent. */
+static void bench_counting(const char *name, const struct tables *mesh, size_t len)
+{
+    if (strstr(name, chosen) == NULL)
+        return;
+    struct sizes s = sizes_of(mesh);
+    uint32_t *numbers = malloc((len + 1) * sizeof *numbers);
+    mlca_count_answer answers[2] = { { 0 } };
+    double best[2] = { 0, 0 };
+    for (int call = 0; call < calls; call++)
+        for (int k = 0; k < KERNELS; k++) {
+            double start = now();
+            answers[k] = count_irregular[k](SLICES(*mesh), numbers, len);
+            best[k] = least(best[k], now() - start);
+        }
+    note(answers[0].refusal == 0 && (KERNELS == 1 || answers[0].count == answers[1].count), "irregular count", name);
+    print_row(name, 0, &s, best);
+    free(numbers);
+}
+
 /* Takes the mesh over. */
 static void refine_once(const char *name, struct tables mesh, uint32_t rounds, bool relabelled)
 {
@@ -182,7 +204,7 @@ static void bench_odd_shapes(void)
 
 int main(int count, char **words)
 {
-    struct tables large = grid(62, 63, 63, true), small = grid(6, 8, 10, true);
+    struct tables large = grid(62, 63, 63, true), middle = grid(30, 32, 32, true), small = grid(6, 8, 10, true);
     calls = count > 1 ? atoi(words[1]) : calls;
     chosen = count > 2 ? words[2] : chosen;
     printf("%-34s %2s %8s %8s %9s %8s", "best of several whole calls", "n", "vertices", "cells", "C ms", "ns/cell");
@@ -193,7 +215,13 @@ int main(int count, char **words)
     bench_odd_shapes();
     bench_stored("246,078 hexes with shell", &large);
     bench_stored("480 hexes with shell", &small);
+    bench_counting("irregular count: enough lent", &large, 12000000);
+    bench_counting("irregular count: enough lent", &middle, 1500000);
+    bench_counting("irregular count: a tenth lent", &middle, 150000);
+    bench_counting("irregular count: a hundredth lent", &middle, 15000);
+    bench_counting("irregular count: nothing lent", &middle, 0);
     free_tables(&large);
+    free_tables(&middle);
     free_tables(&small);
     printf("%d disagreements\n", disagreements);
     return disagreements != 0;
