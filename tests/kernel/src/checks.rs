@@ -10,14 +10,14 @@ type Check = (Refusal, fn(&Mesh) -> bool);
 
 /// Checks 1 to 8 in their order.
 const MESH_CHECKS: [Check; 8] = [
-    (Refusal::PartialEntry, has_ragged_table),
-    (Refusal::CountOutOfRange, has_wrong_size),
-    (Refusal::CoordinateOutOfRange, has_far_vertex),
-    (Refusal::CornerOutOfRange, has_unknown_corner),
-    (Refusal::RepeatedCorner, has_folded_cell),
-    (Refusal::DuplicateCell, has_doubled_cell),
-    (Refusal::MismatchedFace, has_twisted_face),
-    (Refusal::IsolatedVertex, has_loose_vertex),
+    (Refusal::PartialEntry, has_partial_entry),
+    (Refusal::CountOutOfRange, has_count_out_of_range),
+    (Refusal::CoordinateOutOfRange, has_coordinate_out_of_range),
+    (Refusal::CornerOutOfRange, has_corner_out_of_range),
+    (Refusal::RepeatedCorner, has_repeated_corner),
+    (Refusal::DuplicateCell, has_duplicate_cell),
+    (Refusal::MismatchedFace, has_mismatched_face),
+    (Refusal::IsolatedVertex, has_isolated_vertex),
 ];
 
 /// Checks 1 up to the given number, 8 at most.
@@ -40,7 +40,7 @@ pub fn counts_out_of_range(counts: [usize; 5]) -> bool {
     vertices == 0 || vertices > MOST_VERTICES || cells.iter().any(|&count| count > MOST_CELLS)
 }
 
-pub fn is_far(coordinate: i32) -> bool {
+pub fn is_out_of_range(coordinate: i32) -> bool {
     !(LEAST_COORDINATE..=GREATEST_COORDINATE).contains(&coordinate)
 }
 
@@ -56,23 +56,23 @@ pub fn finished_counts(mesh: &Mesh, rounds: u32) -> [usize; 5] {
     [v, h, q, s, p]
 }
 
-fn has_ragged_table(mesh: &Mesh) -> bool {
+fn has_partial_entry(mesh: &Mesh) -> bool {
     mesh.vertices.len() % 3 != 0 || DIMENSIONS.iter().any(|&d| mesh.cells(d).len() % corner_count(d) != 0)
 }
 
-fn has_wrong_size(mesh: &Mesh) -> bool {
+fn has_count_out_of_range(mesh: &Mesh) -> bool {
     counts_out_of_range(mesh.places())
 }
 
-fn has_far_vertex(mesh: &Mesh) -> bool {
-    mesh.vertices.iter().any(|&coordinate| is_far(coordinate))
+fn has_coordinate_out_of_range(mesh: &Mesh) -> bool {
+    mesh.vertices.iter().any(|&coordinate| is_out_of_range(coordinate))
 }
 
-fn has_unknown_corner(mesh: &Mesh) -> bool {
+fn has_corner_out_of_range(mesh: &Mesh) -> bool {
     mesh.tables().iter().any(|table| table.iter().any(|&corner| corner as usize >= mesh.vertex_count()))
 }
 
-fn has_folded_cell(mesh: &Mesh) -> bool {
+fn has_repeated_corner(mesh: &Mesh) -> bool {
     DIMENSIONS.iter().any(|&dimension| mesh.rows(dimension).any(names_a_corner_twice))
 }
 
@@ -80,7 +80,7 @@ fn names_a_corner_twice(cell: &[u32]) -> bool {
     (1..cell.len()).any(|place| cell[..place].contains(&cell[place]))
 }
 
-fn has_doubled_cell(mesh: &Mesh) -> bool {
+fn has_duplicate_cell(mesh: &Mesh) -> bool {
     DIMENSIONS.iter().any(|&dimension| {
         let mut met = HashSet::new();
         mesh.rows(dimension).any(|cell| !met.insert(sorted(cell)))
@@ -93,7 +93,7 @@ fn sorted(cell: &[u32]) -> Vec<u32> {
     corners
 }
 
-fn has_twisted_face(mesh: &Mesh) -> bool {
+fn has_mismatched_face(mesh: &Mesh) -> bool {
     let mut met: HashMap<[u32; 4], [u32; 2]> = HashMap::new();
     [3, 2].iter().any(|&dimension| {
         mesh.rows(dimension).any(|cell| {
@@ -112,7 +112,7 @@ fn neighbours_of_least(face: [u32; 4]) -> [u32; 2] {
     corner_set([face[(least + 1) % 4], face[(least + 3) % 4]])
 }
 
-fn has_loose_vertex(mesh: &Mesh) -> bool {
+fn has_isolated_vertex(mesh: &Mesh) -> bool {
     let mut held = vec![false; mesh.vertex_count()];
     mesh.tables().iter().for_each(|table| table.iter().for_each(|&corner| held[corner as usize] = true));
     held.contains(&false)

@@ -2,7 +2,7 @@
 
 use crate::answers::{signed, CountAnswer, CountsAnswer, MillimetresAnswer, Position};
 use crate::average::{irregular_count, refined};
-use crate::checks::{check_mesh, check_refining, is_far};
+use crate::checks::{check_mesh, check_refining, is_out_of_range};
 use crate::mesh::{Counts, Mesh};
 use crate::refusal::{refuse_if, Refusal};
 use crate::stored::{decode, encode};
@@ -73,7 +73,7 @@ impl Kernel for Oracle {
 
     fn millimetres(&self, coordinates: [i32; 3]) -> MillimetresAnswer {
         let [x, y, z] = coordinates.map(|units| f64::from(units) / 1024.0);
-        refuse_if(coordinates.into_iter().any(is_far), Refusal::CoordinateOutOfRange)
+        refuse_if(coordinates.into_iter().any(is_out_of_range), Refusal::CoordinateOutOfRange)
             .map(|()| Position { x, y, z })
             .into()
     }
