@@ -57,6 +57,19 @@ static const struct mesh p9 = { .vertices = COORDINATES(CUBE), .hexes = VERTICES
 static const struct mesh of_1 = { .vertices = { zeros, 3 * 1 } }, of_2 = { .vertices = { zeros, 3 * 2 } };
 static const struct mesh of_3 = { .vertices = { zeros, 3 * 3 } }, of_256 = { .vertices = { zeros, 3 * 256 } };
 static const struct mesh of_257 = { .vertices = { zeros, 3 * 257 } };
+/* At the ends of the range: a segment over all of it, without and with points at its ends; a point at the greatest
+   coordinate; three hexes round an edge with every coordinate the least one. */
+#define LEAST (-536870912)
+#define GREATEST 536870911
+#define LOW LEAST, LEAST, LEAST
+static const struct mesh span = { .vertices = COORDINATES(LEAST, 0, 0, GREATEST, 0, 0), .segments = VERTICES(0, 1) };
+static const struct mesh pinned = { .vertices = COORDINATES(LEAST, 0, 0, GREATEST, 0, 0), .segments = VERTICES(0, 1),
+                                    .points = VERTICES(0, 1) };
+static const struct mesh high = { .vertices = COORDINATES(GREATEST, 0, 0), .points = VERTICES(0) };
+static const struct mesh low_hub = {
+    .vertices = COORDINATES(LOW, LOW, LOW, LOW, LOW, LOW, LOW, LOW, LOW, LOW, LOW, LOW, LOW, LOW),
+    .hexes = VERTICES(0, 1, 2, 3, 7, 8, 9, 10, 0, 3, 4, 5, 7, 10, 11, 12, 0, 5, 6, 1, 7, 12, 13, 8),
+};
 /* Run only. */
 static const struct mesh point = { .vertices = COORDINATES(-3, 5, 536870911), .points = VERTICES(0) };
 static const struct mesh far = { .vertices = COORDINATES(-3, 5, 536870912), .points = VERTICES(0) };
@@ -88,6 +101,13 @@ static const struct row rows[] = {
     { "9 rounds", acceptance, &p1, 9, NONE, "refused 9" },
     { "coordinate 536,870,911", acceptance, &point, 1, NONE, "accepted" },
     { "coordinate 536,870,912", acceptance, &far, 1, NONE, "refused 3" },
+    { "the whole range: a segment", axis, &span, 1, NONE, "-268435457, 268435455, -1" },
+    { "the whole range: a segment with a point at each end", axis, &pinned, 1, NONE, "-536870912, 536870911, -1" },
+    { "the whole range: a segment through 8 rounds", acceptance, &span, 8, NONE, "accepted" },
+    { "the greatest coordinate through 8 rounds", axis, &high, 8, NONE, "536870911" },
+    { "a hub at the least coordinate: the hub, a midpoint, a hex", positions, &low_hub, 1, VERTICES(0, 14, 56),
+      "(-536870912,-536870912,-536870912)(-536870912,-536870912,-536870912)(-536870912,-536870912,-536870912)" },
+    { "a hub at the least coordinate, twice", acceptance, &low_hub, 2, NONE, "accepted" },
     { "536,870,911 in millimetres", millimetres, &point, 0, NONE, "accepted" },
     { "536,870,912 in millimetres", millimetres, &far, 0, NONE, "refused 3" },
     { "corner 7 of 8 vertices", acceptance, &p8, 1, NONE, "accepted" },

@@ -1,13 +1,15 @@
--- A mesh that passes checks 1 to 8: its rounds have the third property, never leave the range, and pass the checks again.
-use mathlib.Core.Path.{_≡_, refl}
-use mathlib.Core.Bool.{false}
-use Prim.Native.Nat.{ℕ, zero, suc, _%_}
+-- A mesh that passes checks 1 to 8: its rounds have the third property, keep the coordinates in range, and pass the checks again.
+use mathlib.Core.Path.{_≡_, ap}
+use mathlib.Core.Bool.{true, false, not}
+use Prim.Native.Nat.{ℕ, suc, _%_}
 use borrow.Author.Tests.{eqb-true, not-false}
-use lib.ListN.{length}
+use lib.ListN.{length, replicate}
 use Rattle.rules.specs.Mesh.{Mesh, topology}
 use Rattle.rules.specs.Averaging.{refined}
-use Rattle.rules.specs.Refusals.{partialEntry, coordinateOutOfRange, tooLarge, leavesRange}
-use Rattle.lists.proofs.Tests.{or-neither, neither-or}
+use Rattle.rules.specs.Refusals.{partialEntry, coordinateOutOfRange, tooLarge}
+use Rattle.rules.specs.EntryPoints.{rangeKept}
+use Rattle.lists.proofs.Membership.{run-same}
+use Rattle.lists.proofs.Tests.{or-neither}
 use Rattle.soundness.specs.Accepted.{Accepted}
 use Rattle.soundness.proofs.Rounds.{refined-accepted}
 use Rattle.accuracy.specs.Property3.{Property3}
@@ -26,11 +28,9 @@ module _ (m : Mesh) (ok : Accepted m) where
   refined-near k =
       all-in-range (refined k m) .1 (refined-range m (ok .sound) (entire-vertices m (ok .entire)) (all-in-range m .0 (ok .near)) k)
 
-  -- refusal 12 is never given
-  pub never-leaves-range : (k : ℕ) → leavesRange k m ≡ false
-  unfolding leavesRange
-  never-leaves-range zero = refl
-  never-leaves-range (suc k) = neither-or (leavesRange k m) (coordinateOutOfRange (refined (suc k) m)) (never-leaves-range k) (refined-near (suc k))
+  pub range-kept : (rounds : ℕ) → rangeKept rounds m ≡ replicate (suc rounds) true
+  unfolding rangeKept
+  range-kept rounds = run-same _ true 0 (suc rounds) (λ k. ap not (refined-near k))
 
   pub accepted-again : (k : ℕ) → tooLarge k (topology m) ≡ false → Accepted (refined k m)
   accepted-again k h = refined-accepted k m ok h (refined-near k)

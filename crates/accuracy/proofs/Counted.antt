@@ -1,14 +1,14 @@
 -- The cells counted for a vertex are the cells of one kind that hold it, and of a sound mesh there is one.
 use mathlib.Core.Path.{_≡_, refl, sym, subst}
 use mathlib.Core.List.{List, [], _∷_}
-use Prim.Native.Nat.{ℕ, _<_}
+use Prim.Native.Nat.{ℕ, _≤_, _<_}
 use native.Mathlib.Omega.{arith}
 use lib.ListN.{length}
 use Rattle.rules.specs.Lists.{has}
 use Rattle.rules.specs.Mesh.{Kind, hex, quad, segment, point, dimension, Topology, cellsOf}
-use Rattle.rules.specs.Averaging.{holding, Counted, orElse, counted}
+use Rattle.rules.specs.Averaging.{holding, Counted, orElse, counted, rank, valence}
 use Rattle.lists.specs.Membership.{In}
-use Rattle.lists.proofs.Membership.{getD-in, in-some, keep-in, in-keep}
+use Rattle.lists.proofs.Membership.{getD-in, in-some, keep-in, in-keep, length-keep}
 use Rattle.lists.proofs.Tests.{in-has}
 use Rattle.soundness.specs.Sound.{Sound}
 use Rattle.soundness.proofs.Cells.{whole-below}
@@ -41,6 +41,22 @@ pub counted-in : (t : Topology) (v : ℕ) (c : List ℕ) → In c (counted t v .
 unfolding holding
 counted-in t v c i =
     let r = ranked t v in in-keep (has v) (cellsOf t (r .kind)) c (subst (λ (cs : List (List ℕ)). In c cs) (r .cells) i) .0
+
+-- ---- bounds: a rank is a dimension, and a valence is at most the count of a table
+
+pub rank-below : (t : Topology) (v : ℕ) → rank t v ≤ 3
+unfolding rank
+rank-below t v = subst (λ (d : ℕ). d ≤ 3) (sym (ranked t v .rank)) (at (ranked t v .kind))
+  where
+    at : (κ : Kind) → dimension κ ≤ 3
+    at hex = omega arith
+    at quad = omega arith
+    at segment = omega arith
+    at point = omega arith
+
+pub valence-below : (t : Topology) (v : ℕ) → valence t v ≤ length (cellsOf t (ranked t v .kind))
+unfolding valence holding
+valence-below t v = let r = ranked t v in rw (r .cells) (length-keep (has v) (cellsOf t (r .kind)))
 
 -- ---- a vertex that is held has a counted cell
 

@@ -11,8 +11,6 @@ pub mod Means
 pub mod Drawn
 -- Property3: the third property.
 pub mod Property3
--- Sums: no sum of a division overflows.
-pub mod Sums
 -- Range: coordinates in range stay in range.
 pub mod Range
 -- Accepted: the rounds of a mesh that passes the checks.

@@ -139,9 +139,6 @@ module _ (t : Topology) (s : Sound t) where
         some = mul-pos (mul-pos (omega arith) (pow-pos (c .rank))) (counted-some (split t) fine f l);
       }
 
-  pub good-mean : (f : ℕ) → f < split t .vertexCount → GoodMean (t .vertexCount) (meanOf (means t) f)
-  good-mean f l = subst (GoodMean (t .vertexCount)) (sym (mean-is t f l)) (mean-good f l)
-
   pub means-good : Each (GoodMean (t .vertexCount)) (means t)
   unfolding means split splitBy
   means-good =

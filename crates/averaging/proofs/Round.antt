@@ -23,9 +23,8 @@ use Rattle.rounding.proofs.Draws.{natTotal, natTotal-le, natTotal-concatMap, ro
 use Rattle.soundness.proofs.Rounds.{length-averaged, length-means}
 use Rattle.soundness.proofs.SplitSound.{split-sound}
 use Rattle.accuracy.proofs.Axes.{axis-at, axis-averaged}
-use Rattle.accuracy.proofs.Counted.{ranked, counted-some}
+use Rattle.accuracy.proofs.Counted.{ranked, rank-below, valence-below, counted-some}
 use Rattle.accuracy.proofs.Means.{mean-is, means-good}
-use Rattle.accuracy.proofs.Sums.{rank-below, valence-below}
 use Rattle.accuracy.proofs.Range.{all-in-range}
 use Rattle.averaging.specs.Tally.{Tally, tallyAt, Tallied}
 use Rattle.averaging.specs.Pass.{biased, divisorOf, Complete, MeanOf}

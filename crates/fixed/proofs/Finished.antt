@@ -8,8 +8,8 @@ use Rattle.rules.specs.declared.Counts.{Counts}
 use Rattle.rules.specs.declared.CountsAnswer.{CountsAnswer}
 use Rattle.rules.specs.Mesh.{Mesh, topology}
 use Rattle.rules.specs.Averaging.{refined}
-use Rattle.rules.specs.Counts.{countsOf, finishedCounts, fewer}
-use Rattle.rules.specs.Refusals.{check, meshChecks, tooManyRounds, tooLarge, leavesRange}
+use Rattle.rules.specs.Counts.{finishedCounts, fewer}
+use Rattle.rules.specs.Refusals.{check, meshChecks, tooManyRounds, tooLarge}
 use Rattle.rules.specs.EntryPoints.{countsAnswer, resultTables, shortForRefining, refiningRefusal}
 use Rattle.rules.specs.StoredForm.{storedMesh, readingRefusal}
 use Rattle.rules.specs.Viewer.{fixedCounts, fixedLent, andThen, storedRefiningRefusal}
@@ -49,7 +49,7 @@ refining-accepts m rounds e =
     let a = mesh-passes m _ e in
     let b = passes (tooManyRounds rounds) 8 _ (a .1) in
     let c = passes (tooLarge rounds (topology m)) 9 _ (b .1) in
-    let d = passes (shortForRefining fixedLent f) 10 (check (leavesRange rounds m) 12 0) (c .1) in
+    let d = passes (shortForRefining fixedLent f) 10 0 (c .1) in
     record { accepted = a .0; places = or-neither (fewer fixedCounts f) _ (d .0) .0 }
 
 both-accept : (k later : ℕ) → andThen k later ≡ 0 → later ≡ 0

@@ -6,7 +6,7 @@ use mathlib.Core.List.{List, [], _∷_, _++_, map}
 use Prim.Native.Nat.{ℕ, zero, suc, _+_, _≤_, _<_, zero-le, suc-le-suc}
 use native.Mathlib.Nat.{eq-or-lt-of-le, zero-add, add-zero}
 use native.Mathlib.Omega.{arith}
-use lib.ListN.{length, getD}
+use lib.ListN.{length, getD, replicate}
 use Rattle.rules.specs.Lists.{keep, concat, concatMap, upFrom}
 use Rattle.lists.specs.Membership.{In}
 
@@ -181,6 +181,12 @@ module _ {A : Type 0} where
   getD-run f z a zero i h = absurd (omega arith)
   getD-run f z a (suc n) zero h = ap f (omega arith)
   getD-run f z a (suc n) (suc i) h = getD-run f z (suc a) n i (omega arith) ∙ ap f (omega arith)
+
+  -- f is the same of each number
+  pub run-same : (f : ℕ → A) (z : A) (a n : ℕ) → ((k : ℕ) → f k ≡ z) → map f (upFrom a n) ≡ replicate n z
+  unfolding upFrom
+  run-same f z a zero e = refl
+  run-same f z a (suc n) e = ap (λ (x : A). x ∷ map f (upFrom (suc a) n)) (e a) ∙ ap (λ (l : List A). z ∷ l) (run-same f z (suc a) n e)
 
 pub getD-upFrom : (a n i d : ℕ) → i < n → getD (upFrom a n) i d ≡ a + i
 unfolding upFrom

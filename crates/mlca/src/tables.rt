@@ -3,10 +3,11 @@ use rules::CountAnswer;
 use rules::CountsAnswer;
 use rules::MillimetresAnswer;
 ghost use mathlib.Core.Path.{_≡_};
-ghost use Prim.Native.Nat.{_*_};
-ghost use lib.ListN.{take};
+ghost use mathlib.Core.Bool.{true};
+ghost use Prim.Native.Nat.{suc, _*_};
+ghost use lib.ListN.{take, replicate};
 ghost use Rattle.rules.specs.Mesh.{mesh};
-ghost use Rattle.rules.specs.EntryPoints.{refiningAnswer, refiningOutput, clearedTables, cleared, irregularAnswer, millimetresAnswer};
+ghost use Rattle.rules.specs.EntryPoints.{refiningAnswer, refiningOutput, rangeKept, clearedTables, cleared, irregularAnswer, millimetresAnswer};
 ghost use Rattle.rules.specs.StoredForm.{storedForm, storedMesh, readingAnswer, readingOutput, writingAnswer, writingOutput};
 ghost use Rattle.accuracy.specs.Property3.{Property3};
 ghost use Rattle.stored.specs.Inverse.{WritesBack, ReadsBack};
@@ -52,6 +53,9 @@ pub extern "C" fn mlca_refine_tables(
     ensures accuracy { λ r.
         let m = mesh (now (xs .entry)) (now (hs .entry)) (now (qs .entry)) (now (ss .entry)) (now (ps .entry)) in
         ⌜ (r .refusal ≡ 0 → Property3 rounds m (take (3 * r .counts .vertices) (now (ox .exit)))) ⌝ }
+    ensures range { λ r.
+        let m = mesh (now (xs .entry)) (now (hs .entry)) (now (qs .entry)) (now (ss .entry)) (now (ps .entry)) in
+        ⌜ (r .refusal ≡ 0 → rangeKept rounds m ≡ replicate (suc rounds) true) ⌝ }
 {
     refine::refine(
         xs,

@@ -1,7 +1,7 @@
 -- The refusals of refining one after the other, and the sizes of a mesh that passed the checks. Assumes nothing.
 use mathlib.Core.Path.{_≡_, refl, sym, ap, subst, _∙_}
-use mathlib.Core.Bool.{Bool, true, false, _||_}
-use mathlib.Core.List.{List, [], _∷_, _++_, map}
+use mathlib.Core.Bool.{Bool, true, false}
+use mathlib.Core.List.{List, [], _++_, map}
 use Prim.Native.Nat.{ℕ, zero, suc, _+_, _*_, _/_, _^_, _≤_, _<_}
 use native.Mathlib.Nat.{div-lt-iff-lt-mul, mul-comm}
 use native.Mathlib.Omega.{arith}
@@ -16,15 +16,12 @@ use Rattle.rules.specs.Split.{cornersAt, met, distinctParts}
 use Rattle.rules.specs.Counts.{sizes, sizesAfter, countsIn, finishedCounts, outOfRange, fewer}
 use Rattle.rules.specs.Refusals.{check, partialEntry, countOutOfRange, coordinateOutOfRange, cornerOutOfRange, repeatedCorner, duplicateCell, mismatchedFace, isolatedVertex, tableChecks, meshChecks, tooManyRounds, tooLarge}
 use Rattle.rules.specs.EntryPoints.{Lent as Lengths, shortForRefining, refiningRefusal}
-use Rattle.lists.specs.Membership.{In}
-use Rattle.lists.proofs.Tests.{either, false-together, is-false}
+use Rattle.lists.proofs.Tests.{false-together, is-false}
 use Rattle.lists.proofs.Once.{length-concatMap}
 use Rattle.lists.proofs.Distinct.{distinct-length}
 use Rattle.soundness.specs.Accepted.{Accepted}
-use Rattle.soundness.specs.Growth.{InRange}
 use Rattle.soundness.proofs.Checks.{accepted-passes}
 use Rattle.soundness.proofs.Rounds.{counts-now, in-range}
-use Rattle.accuracy.proofs.Accepted.{never-leaves-range}
 use Rattle.counting.specs.Bounded.{Bounded}
 use Rattle.refine.specs.declared.plan.Lent.{Lent}
 use Rattle.refine.specs.declared.plan.Plan.{Plan}
@@ -63,9 +60,7 @@ refusal-mesh m rounds l (suc n) e h = sym (refused-later m n _ (sym e))
 pub refusal-rounds : (m : Mesh) (rounds : ℕ) (l : Lengths) → Accepted m
     → refiningRefusal m rounds l ≡ check (tooManyRounds rounds) 9 (check (tooLarge rounds (topology m)) 10 (check (shortForRefining l (finishedCounts rounds (topology m))) 11 0))
 unfolding refiningRefusal
-refusal-rounds m rounds l a =
-    accepted-passes m a _
-    ∙ ap (λ (b : Bool). check (tooManyRounds rounds) 9 (check (tooLarge rounds (topology m)) 10 (check (shortForRefining l (finishedCounts rounds (topology m))) 11 (check b 12 0)))) (never-leaves-range m a rounds)
+refusal-rounds m rounds l a = accepted-passes m a _
 
 -- ---- the sizes of a mesh that passed the checks fit
 

@@ -1,12 +1,11 @@
 -- From the checks to the rounds and back: what acceptance tells of lent memory, and what the answer and the output tables then are.
 -- Assumes nothing.
 use mathlib.Core.Path.{_≡_, refl, sym, ap, subst, _∙_}
-use mathlib.Core.Bool.{Bool, true, false, _||_}
+use mathlib.Core.Bool.{Bool, true, false}
 use mathlib.Core.List.{List}
-use Prim.Native.Nat.{ℕ, zero, suc, _*_, _/_, _^_, _≤_, _<_}
+use Prim.Native.Nat.{ℕ, zero, suc, _*_, _/_, _≤_}
 use native.Mathlib.Omega.{arith}
 use borrow.Author.Tests.{ltb-false}
-use lib.Dec.{ltb}
 use lib.ListN.{length, take, replicate}
 use lib.IntN.{ℤ, pos}
 use Rattle.rules.specs.declared.Counts.{Counts}
@@ -15,17 +14,17 @@ use Rattle.rules.specs.declared.CountsAnswer.{CountsAnswer}
 use Rattle.rules.specs.Lists.{overwritten}
 use Rattle.rules.specs.Mesh.{Mesh, topology}
 use Rattle.rules.specs.Averaging.{refined}
-use Rattle.rules.specs.Counts.{sizes, sizesAfter, countsIn, countsOf, finishedCounts, noCounts, outOfRange, fewer}
-use Rattle.rules.specs.Refusals.{check, meshChecks, tooManyRounds, tooLarge, leavesRange}
-use Rattle.rules.specs.EntryPoints.{countsAnswer, cleared, clearedTables, resultTables, lentBy, shortForRefining, refiningRefusal, refiningAnswer, refiningOutput}
-use Rattle.lists.proofs.Tests.{or-neither, false≢true}
+use Rattle.rules.specs.Counts.{sizes, sizesAfter, countsIn, countsOf, finishedCounts, noCounts, fewer}
+use Rattle.rules.specs.Refusals.{check, meshChecks, tooManyRounds, tooLarge}
+use Rattle.rules.specs.EntryPoints.{countsAnswer, cleared, clearedTables, resultTables, lentBy, shortForRefining, refiningRefusal, refiningAnswer, refiningOutput, rangeKept}
+use Rattle.lists.proofs.Tests.{or-neither}
 use Rattle.soundness.specs.Accepted.{Accepted}
 use Rattle.soundness.proofs.Checks.{checks-accept}
-use Rattle.soundness.specs.Growth.{AtMost, InRange}
+use Rattle.soundness.specs.Growth.{AtMost}
 use Rattle.soundness.proofs.Rounds.{in-range, refined-sizes, refined-entire}
 use Rattle.soundness.proofs.SplitSizes.{after-grows}
 use Rattle.accuracy.specs.Property3.{Property3}
-use Rattle.accuracy.proofs.Accepted.{accepted-property-3, never-leaves-range}
+use Rattle.accuracy.proofs.Accepted.{accepted-property-3, range-kept}
 use Rattle.refine.specs.declared.plan.Lent.{Lent}
 use Rattle.refine.specs.declared.plan.Plan.{Plan}
 use Rattle.refine.specs.Front.{front, Room}
@@ -33,7 +32,7 @@ use Rattle.refine.specs.Planned.{lengths, Planned}
 use Rattle.refine.specs.Ready.{ReadyFor, Answerable}
 use Rattle.refine.proofs.Five.{same-mesh}
 use Rattle.refine.proofs.Decisions.{refused-later, refusal-rounds}
-use Rattle.refine.proofs.Turns.{Filled, filled, begins, front-begins, result-twice, room-less, room-stored, SameLengths, now-filled, grown}
+use Rattle.refine.proofs.Turns.{Filled, filled, begins, front-begins, result-twice, room-less, room-stored, SameLengths, now-filled}
 
 -- ---- the answer of a refusal
 
@@ -74,14 +73,12 @@ module _ {n : ℕ} {m : Mesh} {s : Sizes} {out work : Mesh} {words longs : List 
         })
 
     -- what the rounds of the copy leave
-    pub copy-refined : (r : ℕ) (o′ : Mesh) → r ≡ check (leavesRange n (front s o)) 12 0 → o′ ≡ resultTables 0 o (refined n (front s o)) → (r ≡ check (leavesRange n m) 12 0) × (o′ ≡ resultTables 0 out (refined n m))
-    copy-refined r o′ f g = (
-      f ∙ ap (λ (x : Mesh). check (leavesRange n x) 12 0) copied-front,
-      g
-          ∙ ap (λ (x : Mesh). resultTables 0 o (refined n x)) copied-front
-          ∙ ap (λ (x : Mesh). resultTables 0 x (refined n m)) e
-          ∙ result-twice (sizes (topology m)) (sizes (topology (refined n m))) m (refined n m) (filled m (ready .accepted .entire)) (now-filled ready n (omega arith)) grows out,
-    )
+    pub copy-refined : (o′ : Mesh) → o′ ≡ resultTables 0 o (refined n (front s o)) → o′ ≡ resultTables 0 out (refined n m)
+    copy-refined o′ g =
+        g
+        ∙ ap (λ (x : Mesh). resultTables 0 o (refined n x)) copied-front
+        ∙ ap (λ (x : Mesh). resultTables 0 x (refined n m)) e
+        ∙ result-twice (sizes (topology m)) (sizes (topology (refined n m))) m (refined n m) (filled m (ready .accepted .entire)) (now-filled ready n (omega arith)) grows out
       where
         grows : AtMost (sizes (topology m)) (sizes (topology (refined n m)))
         grows = subst (λ (r : Sizes). AtMost (sizes (topology m)) r) (sym (refined-sizes n m (ready .accepted .sound))) (after-grows n (sizes (topology m)))
@@ -180,14 +177,12 @@ module _ (m : Mesh) (rounds : ℕ) (out work : Mesh) (words longs : List ℕ) (l
     pub plan-answerable : Answerable (p .finished)
     plan-answerable = none-answerable m rounds out work words longs none (p .finished) (plan .finished zero)
 
-    pub plan-accepted : (n : ℕ) (r : CountsAnswer) (o : Mesh) → n ≡ check (leavesRange rounds m) 12 0 → r ≡ countsAnswer n (countsIn (p .finished)) → o ≡ resultTables 0 out (refined rounds m) → (r ≡ refiningAnswer m rounds out work words longs) × (o ≡ refiningOutput m rounds out work words longs)
+    pub plan-accepted : (r : CountsAnswer) (o : Mesh) → r ≡ countsAnswer 0 (countsIn (p .finished)) → o ≡ resultTables 0 out (refined rounds m) → (r ≡ refiningAnswer m rounds out work words longs) × (o ≡ refiningOutput m rounds out work words longs)
     unfolding refiningAnswer refiningOutput finishedCounts
-    plan-accepted n r o f e g =
-        let a = none-accepted m rounds out work words longs none in
-        let z : n ≡ refiningRefusal m rounds (lentBy out work words longs) = f ∙ ap (λ (b : Bool). check b 12 0) (never-leaves-range m a rounds) ∙ sym none in (
-          e ∙ ap (λ (f : Sizes). countsAnswer n (countsIn f)) (plan .finished zero) ∙ ap (λ (k : ℕ). countsAnswer k (countsIn (sizesAfter rounds (sizes (topology m))))) z,
-          g ∙ ap (λ (k : ℕ). resultTables k out (refined rounds m)) (sym none),
-        )
+    plan-accepted r o e g = (
+      e ∙ ap (λ (f : Sizes). countsAnswer 0 (countsIn f)) (plan .finished zero) ∙ ap (λ (k : ℕ). countsAnswer k (countsIn (sizesAfter rounds (sizes (topology m))))) (sym none),
+      g ∙ ap (λ (k : ℕ). resultTables k out (refined rounds m)) (sym none),
+    )
 
 -- what is lent, as the code counts it
 pub lent-is : (out work : Mesh) (words longs : List ℕ) (o w : Sizes) → countsIn o ≡ countsOf out → countsIn w ≡ countsOf work → lengths (record { output = o; working = w; words = length words; longs = length longs }) ≡ lentBy out work words longs
@@ -205,7 +200,7 @@ ready-same words words′ e r = record {
   enoughLongs = r .enoughLongs;
 }
 
--- ---- the third property of what was written
+-- ---- the third property of what was written, and the range of every round
 
 -- the written coordinates stand at the front of their table
 written-front : (m : Mesh) (rounds : ℕ) (out : List ℤ) → Accepted m → take (3 * finishedCounts rounds (topology m) .vertices) (overwritten out (refined rounds m .vertices)) ≡ refined rounds m .vertices
@@ -214,21 +209,31 @@ written-front m rounds out a =
     begins (3 * sizesAfter rounds (sizes (topology m)) .vertices) out (refined rounds m .vertices)
     (filled (refined rounds m) (refined-entire rounds m (a .entire)) .vertices ∙ ap (λ (r : Sizes). 3 * r .vertices) (refined-sizes rounds m (a .sound)))
 
-pub output-accurate : (m : Mesh) (rounds : ℕ) (out work : Mesh) (words longs : List ℕ) (r : CountsAnswer) (o : Mesh) → r ≡ refiningAnswer m rounds out work words longs → o ≡ refiningOutput m rounds out work words longs → r .refusal ≡ 0 → Property3 rounds m (take (3 * r .counts .vertices) (o .vertices))
-unfolding refiningAnswer refiningOutput resultTables
-output-accurate m rounds out work words longs r o e f z = go (refiningRefusal m rounds (lentBy out work words longs)) refl
-  where
-    go : (n : ℕ) → refiningRefusal m rounds (lentBy out work words longs) ≡ n → Property3 rounds m (take (3 * r .counts .vertices) (o .vertices))
-    go (suc n) g =
-        let c : suc n ≡ 0 = sym (ap (λ (k : ℕ). countsAnswer k (finishedCounts rounds (topology m)) .refusal) g) ∙ sym (ap (λ (x : CountsAnswer). x .refusal) e) ∙ z in
-        absurd (omega arith)
-    go zero g =
-        let a = none-accepted m rounds out work words longs g in
-        let v : r .counts .vertices ≡ finishedCounts rounds (topology m) .vertices = ap (λ (x : CountsAnswer). x .counts .vertices) (e ∙ ap (λ (k : ℕ). countsAnswer k (finishedCounts rounds (topology m))) g) in
-        let w : o .vertices ≡ overwritten (out .vertices) (refined rounds m .vertices) = ap (λ (x : Mesh). x .vertices) (f ∙ ap (λ (k : ℕ). resultTables k out (refined rounds m)) g) in
-        let t : take (3 * r .counts .vertices) (o .vertices) ≡ refined rounds m .vertices =
-        ap (λ (k : ℕ). take (3 * k) (o .vertices)) v ∙ ap (take (3 * finishedCounts rounds (topology m) .vertices)) w ∙ written-front m rounds (out .vertices) a in
-        subst (λ (ws : List ℤ). Property3 rounds m ws) (sym t) (accepted-property-3 m a rounds)
+-- an answer has the number of its refusal
+refusal-of : (n : ℕ) (c : Counts) → countsAnswer n c .refusal ≡ n
+refusal-of zero c = refl
+refusal-of (suc n) c = refl
+
+-- where the answer has no refusal
+module _ (m : Mesh) (rounds : ℕ) (out work : Mesh) (words longs : List ℕ) (r : CountsAnswer) (e : r ≡ refiningAnswer m rounds out work words longs) where
+  answered : r .refusal ≡ 0 → refiningRefusal m rounds (lentBy out work words longs) ≡ 0
+  unfolding refiningAnswer
+  answered z = sym (refusal-of _ _) ∙ sym (ap (λ (x : CountsAnswer). x .refusal) e) ∙ z
+
+  accepted : r .refusal ≡ 0 → Accepted m
+  accepted z = none-accepted m rounds out work words longs (answered z)
+
+  pub output-accurate : (o : Mesh) → o ≡ refiningOutput m rounds out work words longs → r .refusal ≡ 0 → Property3 rounds m (take (3 * r .counts .vertices) (o .vertices))
+  unfolding refiningAnswer refiningOutput resultTables
+  output-accurate o f z =
+      let v : r .counts .vertices ≡ finishedCounts rounds (topology m) .vertices = ap (λ (x : CountsAnswer). x .counts .vertices) (e ∙ ap (λ (k : ℕ). countsAnswer k (finishedCounts rounds (topology m))) (answered z)) in
+      let w : o .vertices ≡ overwritten (out .vertices) (refined rounds m .vertices) = ap (λ (x : Mesh). x .vertices) (f ∙ ap (λ (k : ℕ). resultTables k out (refined rounds m)) (answered z)) in
+      let t : take (3 * r .counts .vertices) (o .vertices) ≡ refined rounds m .vertices =
+      ap (λ (k : ℕ). take (3 * k) (o .vertices)) v ∙ ap (take (3 * finishedCounts rounds (topology m) .vertices)) w ∙ written-front m rounds (out .vertices) (accepted z) in
+      subst (λ (ws : List ℤ). Property3 rounds m ws) (sym t) (accepted-property-3 m (accepted z) rounds)
+
+  pub output-in-range : r .refusal ≡ 0 → rangeKept rounds m ≡ replicate (suc rounds) true
+  output-in-range z = range-kept m (accepted z) rounds
 
 -- ---- cleared memory
 

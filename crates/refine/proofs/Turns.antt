@@ -1,9 +1,9 @@
 -- The rounds in place: what the output tables hold after each, and that each is ready for the next. Assumes nothing.
 use mathlib.Core.Path.{_≡_, refl, sym, ap, subst, _∙_}
-use mathlib.Core.Bool.{Bool, true, false, not, _||_}
+use mathlib.Core.Bool.{false, not}
 use mathlib.Core.List.{List, _++_}
-use Prim.Native.Nat.{ℕ, zero, suc, _+_, _*_, _-_, _/_, _%_, _^_, _≤_, _<_}
-use native.Mathlib.Nat.{div-add-mod, le-trans, mul-le-mul-left, le-of-eq}
+use Prim.Native.Nat.{ℕ, suc, _+_, _*_, _-_, _/_, _%_, _^_, _≤_, _<_}
+use native.Mathlib.Nat.{div-add-mod, mul-le-mul-left}
 use native.Mathlib.Omega.{arith}
 use borrow.Author.Tests.{eqb-true, not-false}
 use lib.ListN.{length, take, drop, take-append-drop}
@@ -11,18 +11,18 @@ use lib.Seq.{take-at, drop-append-add, drop-drop}
 use lib.Dec.{eqb}
 use Rattle.rules.specs.declared.Sizes.{Sizes}
 use Rattle.rules.specs.declared.Counts.{Counts}
-use Rattle.rules.specs.Lists.{any, overwritten}
+use Rattle.rules.specs.Lists.{overwritten}
 use Rattle.rules.specs.Mesh.{Mesh, topology}
 use Rattle.rules.specs.Averaging.{round, refined}
 use Rattle.rules.specs.Counts.{sizes, nextSizes, sizesAfter, countsIn, countsOf, finishedCounts, outOfRange}
-use Rattle.rules.specs.Refusals.{partialEntry, countOutOfRange, outside, coordinateOutOfRange, tooLarge}
+use Rattle.rules.specs.Refusals.{partialEntry, countOutOfRange, tooLarge}
 use Rattle.rules.specs.EntryPoints.{resultTables}
 use Rattle.lists.proofs.Tests.{or-neither}
 use Rattle.soundness.specs.Accepted.{Accepted}
-use Rattle.soundness.specs.Growth.{AtMost, InRange}
+use Rattle.soundness.specs.Growth.{AtMost}
 use Rattle.soundness.proofs.SplitSizes.{after-suc, after-grows, never-fall}
 use Rattle.soundness.proofs.Rounds.{counts-now, in-range, refined-sizes, tooLarge-before}
-use Rattle.accuracy.proofs.Accepted.{refined-near, accepted-again}
+use Rattle.accuracy.proofs.Accepted.{accepted-again}
 use Rattle.counting.specs.Bounded.{Bounded}
 use Rattle.refine.specs.Front.{frontOf, front, Room}
 use Rattle.refine.specs.Ready.{Ready, ReadyFor}
@@ -305,19 +305,6 @@ module _ {n k : ℕ} {m : Mesh} {s₀ s : Sizes} {out₀ out work₀ work : Mesh
 
     next-holds : out′ ≡ resultTables 0 out₀ (refined (suc k) m)
     next-holds = turned ready k h out out′ (t .holds) (f ∙ ap (λ (r : Sizes). resultTables 0 out (round (front r out))) (t .sized))
-
-    -- no coordinate leaves its range
-    pub turning-near : any outside (take (3 * s′ .vertices) (out′ .vertices)) ≡ false
-    unfolding frontOf coordinateOutOfRange
-    turning-near =
-        ap (λ (r : Sizes). any outside (take (3 * r .vertices) (out′ .vertices))) next-sized
-        ∙ ap (λ (x : Mesh). any outside (x .vertices)) (front-now ready (suc k) h out′ next-holds)
-        ∙ refined-near m (ready .accepted) (suc k)
-
-    pub turning-covers : 3 * s′ .vertices ≤ length (out′ .vertices)
-    turning-covers =
-        let r = subst (λ (r : Sizes). Room r out′) (sym next-sized) (room-now ready (suc k) h out′ (out-room ready (suc k) h out′ next-holds)) in
-        r .vertices
 
     pub turning-next : {work′ : Mesh} (words′ longs′ : List ℕ) → SameLengths out out′ → SameLengths work work′ → length words′ ≡ length words → length longs′ ≡ length longs → Turning n (suc k) m s′ out₀ out′ work₀ work′ words₀ words′ longs₀ longs′
     turning-next words′ longs′ o w p q = record {

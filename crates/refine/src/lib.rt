@@ -11,14 +11,14 @@ use rules::Counts;
 use rules::CountsAnswer;
 use rules::Sizes;
 ghost use mathlib.Core.Path.{_≡_};
-ghost use Prim.Native.Nat.{_*_};
-ghost use lib.ListN.{take};
+ghost use mathlib.Core.Bool.{true};
+ghost use Prim.Native.Nat.{suc, _*_};
+ghost use lib.ListN.{take, replicate};
 ghost use Rattle.rules.specs.declared.Counts.{Counts};
 ghost use Rattle.rules.specs.Mesh.{mesh};
 ghost use Rattle.rules.specs.Averaging.{refined};
 ghost use Rattle.rules.specs.Counts.{countsIn};
-ghost use Rattle.rules.specs.Refusals.{check, leavesRange};
-ghost use Rattle.rules.specs.EntryPoints.{countsAnswer, resultTables, refiningAnswer, refiningOutput, clearedTables, cleared};
+ghost use Rattle.rules.specs.EntryPoints.{countsAnswer, resultTables, refiningAnswer, refiningOutput, rangeKept, clearedTables, cleared};
 ghost use Rattle.accuracy.specs.Property3.{Property3};
 ghost use Rattle.refine.specs.Ready.{ReadyFor, Answerable};
 
@@ -44,14 +44,11 @@ fn refused(refusal: u32) -> CountsAnswer
     }
 }
 
-// The answer: the counts, and zeros in their place where there is a refusal.
-fn answer(refusal: u32, finished: Sizes) -> CountsAnswer
+// The answer of a call that is not refused: the counts.
+fn answer(finished: Sizes) -> CountsAnswer
     requires { ⌜ Answerable finished ⌝ }
-    ensures { λ r. ⌜ r ≡ countsAnswer refusal (countsIn finished) ⌝ }
+    ensures { λ r. ⌜ r ≡ countsAnswer 0 (countsIn finished) ⌝ }
 {
-    if refusal != 0 {
-        return refused(refusal);
-    }
     let counts = Counts {
         vertices: finished.vertices as u32,
         hexes: finished.hexes as u32,
@@ -83,13 +80,10 @@ fn accepted(
     wp: &mut [u32],
     words: &mut [u32],
     longs: &mut [u64],
-) -> u32
+)
     requires { let m = mesh (now xs) (now hs) (now qs) (now ss) (now ps) in
         let out = mesh (now ox) (now oh) (now oq) (now os) (now op) in
         ⌜ ReadyFor rounds m start out (mesh (now wx) (now wh) (now wq) (now ws) (now wp)) (now words) (now longs) ⌝ }
-    ensures { λ r.
-        let m = mesh (now (xs .entry)) (now (hs .entry)) (now (qs .entry)) (now (ss .entry)) (now (ps .entry)) in
-        ⌜ r ≡ check (leavesRange rounds m) 12 0 ⌝ }
     ensures { λ _.
         let m = mesh (now (xs .entry)) (now (hs .entry)) (now (qs .entry)) (now (ss .entry)) (now (ps .entry)) in
         let old = mesh (now (ox .entry)) (now (oh .entry)) (now (oq .entry)) (now (os .entry)) (now (op .entry)) in
@@ -111,7 +105,7 @@ fn accepted(
         wp,
         words,
         longs,
-    )
+    );
 }
 
 // The answer and the output tables; what is left in the working memory is not said.
@@ -161,7 +155,7 @@ fn run(
     if refusal != 0 {
         return refused(refusal);
     }
-    let range_refusal = accepted(
+    accepted(
         xs,
         hs,
         qs,
@@ -182,7 +176,7 @@ fn run(
         words,
         longs,
     );
-    answer(range_refusal, finished)
+    answer(finished)
 }
 
 // Refining, for every input: document 01's answer; the finished mesh at the front of the output tables, which a refusal leaves as they were;
@@ -225,6 +219,9 @@ pub fn refine(
     ensures accuracy { λ r.
         let m = mesh (now (xs .entry)) (now (hs .entry)) (now (qs .entry)) (now (ss .entry)) (now (ps .entry)) in
         ⌜ (r .refusal ≡ 0 → Property3 rounds m (take (3 * r .counts .vertices) (now (ox .exit)))) ⌝ }
+    ensures range { λ r.
+        let m = mesh (now (xs .entry)) (now (hs .entry)) (now (qs .entry)) (now (ss .entry)) (now (ps .entry)) in
+        ⌜ (r .refusal ≡ 0 → rangeKept rounds m ≡ replicate (suc rounds) true) ⌝ }
 {
     let r = run(
         xs,

@@ -2,11 +2,7 @@
 use crate::tables::copy_front;
 use rules::Sizes;
 ghost use mathlib.Core.Path.{_≡_};
-ghost use Prim.Native.Nat.{_*_, _≤_};
-ghost use lib.ListN.{length, take};
-ghost use Rattle.rules.specs.Lists.{any};
 ghost use Rattle.rules.specs.Mesh.{mesh};
-ghost use Rattle.rules.specs.Refusals.{check, outside, leavesRange};
 ghost use Rattle.rules.specs.Averaging.{round, refined};
 ghost use Rattle.rules.specs.EntryPoints.{resultTables};
 ghost use Rattle.refine.specs.Front.{front, Room};
@@ -133,16 +129,7 @@ pub fn turn(
     round_front(sizes, wx, wh, wq, ws, wp, ox, oh, oq, os, op, words, longs);
 }
 
-// Whether a coordinate of the mesh of the given sizes at the front of a table is out of range: check 12.
-fn leaves_range(sizes: Sizes, xs: &[i32]) -> bool
-    requires { ⌜ 3 * sizes .vertices ≤ length (now xs) ⌝ }
-    ensures { λ r. ⌜ r ≡ any outside (take (3 * sizes .vertices) (now (xs .entry))) ⌝ }
-{
-    let n = 3 * sizes.vertices as usize;
-    checks::tables::has_coordinate_out_of_range(&xs[..n])
-}
-
-// The rounds, one after the other, of the mesh at the front of the output tables. Answers 12 where a round leaves the range, which never happens.
+// The rounds, one after the other, of the mesh at the front of the output tables.
 pub fn turns(
     rounds: u32,
     start: Sizes,
@@ -158,12 +145,9 @@ pub fn turns(
     wp: &mut [u32],
     words: &mut [u32],
     longs: &mut [u64],
-) -> u32
+)
     requires { let out = mesh (now ox) (now oh) (now oq) (now os) (now op) in
         ⌜ ReadyFor rounds (front start out) start out (mesh (now wx) (now wh) (now wq) (now ws) (now wp)) (now words) (now longs) ⌝ }
-    ensures { λ r.
-        let m = front start (mesh (now (ox .entry)) (now (oh .entry)) (now (oq .entry)) (now (os .entry)) (now (op .entry))) in
-        ⌜ r ≡ check (leavesRange rounds m) 12 0 ⌝ }
     ensures { λ _.
         let old = mesh (now (ox .entry)) (now (oh .entry)) (now (oq .entry)) (now (os .entry)) (now (op .entry)) in
         ⌜ mesh (now (ox .exit)) (now (oh .exit)) (now (oq .exit)) (now (os .exit)) (now (op .exit)) ≡ resultTables 0 old (refined rounds (front start old)) ⌝ }
@@ -173,10 +157,6 @@ pub fn turns(
     while k < rounds {
         turn(sizes, ox, oh, oq, os, op, wx, wh, wq, ws, wp, words, longs);
         sizes = counting::next_sizes(sizes);
-        if leaves_range(sizes, ox) {
-            return 12;
-        }
         k += 1;
     }
-    0
 }

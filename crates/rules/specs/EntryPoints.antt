@@ -1,7 +1,7 @@
 -- Document 01, 'Lent memory' and 'Refused meshes and files': for refining, the irregular count and the millimetre report, the first refusal
 -- in order, the whole answer, and what lent memory holds on return.
 use mathlib.Core.Bool.{Bool, not, _||_}
-use mathlib.Core.List.{List}
+use mathlib.Core.List.{List, map}
 use Prim.Native.Nat.{ℕ, zero, suc, _*_, _^_}
 use lib.ListN.{length, replicate}
 use lib.IntN.{ℤ, pos, natAbs}
@@ -17,7 +17,7 @@ use Rattle.rules.specs.Lists.{keep, upFrom, overwritten}
 use Rattle.rules.specs.Mesh.{Mesh, Topology, topology}
 use Rattle.rules.specs.Averaging.{rank, valence, refined}
 use Rattle.rules.specs.Counts.{countsOf, finishedCounts, noCounts, fewer}
-use Rattle.rules.specs.Refusals.{check, outside, meshChecks, tooManyRounds, tooLarge, leavesRange}
+use Rattle.rules.specs.Refusals.{check, outside, coordinateOutOfRange, meshChecks, tooManyRounds, tooLarge}
 
 -- ---- answers: "Every refusal returns its number and zero counts (zeros in place of any other numbers)"
 
@@ -78,15 +78,14 @@ shortForRefining lent finished =
     || (fewer (lent .working) finished
     || (ltb (lent .words) (8 * finished .vertices) || ltb (lent .longs) (3 * finished .vertices)))
 
--- "Refining checks 1 to 11 in that order, each over the whole mesh, before a round; 12 after each round."
+-- "Refining checks 1 to 11 in that order, each over the whole mesh, before a round". No check follows a round.
 unfoldable pub refiningRefusal : Mesh → ℕ → Lent → ℕ
 refiningRefusal m rounds lent =
     let t = topology m in
     meshChecks m
     (check (tooManyRounds rounds) 9
     (check (tooLarge rounds t) 10
-    (check (shortForRefining lent (finishedCounts rounds t)) 11
-    (check (leavesRange rounds m) 12 0))))
+    (check (shortForRefining lent (finishedCounts rounds t)) 11 0)))
 
 -- the memory that slices lend
 abbrev pub lentBy : Mesh → Mesh → List ℕ → List ℕ → Lent
@@ -102,6 +101,11 @@ refiningAnswer m rounds output working words longs =
 unfoldable pub refiningOutput : Mesh → ℕ → Mesh → Mesh → List ℕ → List ℕ → Mesh
 refiningOutput m rounds output working words longs =
     resultTables (refiningRefusal m rounds (lentBy output working words longs)) output (refined rounds m)
+
+-- Whether every coordinate is in range: of the first mesh, and of the mesh after each of the rounds, in this order. Refining promises that all are
+-- true, where document 01 had it look after each round and refuse with 12.
+unfoldable pub rangeKept : ℕ → Mesh → List Bool
+rangeKept rounds m = map (λ (k : ℕ). not (coordinateOutOfRange (refined k m))) (upFrom 0 (suc rounds))
 
 -- ---- the irregular count
 

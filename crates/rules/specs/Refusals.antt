@@ -1,8 +1,8 @@
--- Document 01, 'Refused meshes and files': the conditions 1 to 12, each "over the whole mesh". A condition is true where its refusal is given.
+-- Document 01, 'Refused meshes and files': the conditions 1 to 11, each "over the whole mesh". A condition is true where its refusal is given.
 -- 13 to 16 concern the stored form and stand there.
 use mathlib.Core.Bool.{Bool, true, false, not, _&&_, _||_}
 use mathlib.Core.List.{List, map}
-use Prim.Native.Nat.{ℕ, zero, suc, _%_}
+use Prim.Native.Nat.{ℕ, _%_}
 use lib.ListN.{length}
 use lib.IntN.{ℤ, pos, negsuc}
 use lib.Signed.{ltZ}
@@ -10,7 +10,6 @@ use lib.Dec.{leb, ltb, eqb}
 use Rattle.rules.specs.Lists.{any, repeats, upFrom, has, Key, keyOf, same}
 use Rattle.rules.specs.Mesh.{Mesh, Kind, hex, quad, segment, kinds, corners, Topology, topology, cellsOf, quadEdges}
 use Rattle.rules.specs.Split.{keyAt, met}
-use Rattle.rules.specs.Averaging.{refined}
 use Rattle.rules.specs.Counts.{countsOf, finishedCounts, outOfRange}
 
 -- The number of a check that fails, and else what the later checks say. 0 is no refusal.
@@ -86,11 +85,7 @@ tooLarge rounds t = outOfRange (finishedCounts rounds t)
 
 -- ---- 11, document 01: short buffer. "any lent output or working buffer is too short". Each entry point says which buffers it is lent.
 
--- ---- 12, document 01: strayed. "a round leaves a coordinate out of range"
-
-unfoldable pub leavesRange : ℕ → Mesh → Bool
-leavesRange zero m = false
-leavesRange (suc k) m = leavesRange k m || coordinateOutOfRange (refined (suc k) m)
+-- ---- 12, document 01: strayed. Retired: no entry point gives it, and no later refusal takes its number. `rangeKept` of refining stands in its place.
 
 -- ---- checks that several entry points make
 

@@ -1,8 +1,10 @@
 -- The meshes of document 01's foundry samples, and some that they miss.
+use mathlib.Core.Bool.{cond}
 use mathlib.Core.List.{List, [], _∷_, _++_, map}
 use Prim.Native.Nat.{ℕ, _*_}
 use lib.ListN.{replicate}
 use lib.IntN.{ℤ, pos, negsuc}
+use lib.Signed.{ltZ}
 use Rattle.rules.specs.Lists.{upFrom}
 use Rattle.rules.specs.Mesh.{Mesh, mesh}
 
@@ -59,6 +61,20 @@ hub =
     ∷ negsuc 8 ∷ pos 1 ∷ pos 9 ∷ negsuc 4 ∷ negsuc 7 ∷ pos 9 ∷ pos 6 ∷ negsuc 6 ∷ pos 9 ∷ [])
     (0 ∷ 1 ∷ 2 ∷ 3 ∷ 7 ∷ 8 ∷ 9 ∷ 10 ∷ 0 ∷ 3 ∷ 4 ∷ 5 ∷ 7 ∷ 10 ∷ 11 ∷ 12 ∷ 0 ∷ 5 ∷ 6 ∷ 1 ∷ 7 ∷ 12 ∷ 13 ∷ 8 ∷ [])
     [] [] []
+
+-- ---- at the ends of the range of coordinates
+
+-- a segment from the least to the greatest coordinate, with some points
+unfoldable pub span : List ℕ → Mesh
+span ps = wire (negsuc 536_870_911 ∷ pos 536_870_911 ∷ []) (0 ∷ 1 ∷ []) ps
+
+-- the hub with every coordinate the least one
+unfoldable pub lowHub : Mesh
+lowHub = mesh (replicate 42 (negsuc 536_870_911)) (hub .hexes) [] [] []
+
+-- the cube with its six faces as quads, from the least to the greatest coordinate on each axis
+unfoldable pub wideCube : Mesh
+wideCube = mesh (map (λ (z : ℤ). cond (ltZ (pos 0) z) (pos 536_870_911) (negsuc 536_870_911)) (cube [] .vertices)) (upFrom 0 8) sides [] []
 
 -- a hex, a quad on its top, two segments and a point
 unfoldable pub mixed : Mesh

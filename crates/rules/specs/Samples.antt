@@ -3,7 +3,7 @@ use mathlib.Core.Path.{_≡_}
 use mathlib.Core.List.{List, [], _∷_, _++_, map}
 use Prim.Native.Nat.{ℕ, _*_}
 use lib.ListN.{length, take, drop, replicate}
-use mathlib.Core.Bool.{true, false}
+use mathlib.Core.Bool.{Bool, true, false}
 use lib.IntN.{ℤ, pos, negsuc, _*ℤ_}
 use lib.Ieee.{Float, fin}
 use Rattle.rules.specs.declared.Counts.{Counts}
@@ -13,11 +13,11 @@ use Rattle.rules.specs.Means.{Round, meanOf, remainder}
 use Rattle.rules.specs.Averaging.{rank, valence, axis, refined, roundsOf}
 use Rattle.rules.specs.Accuracy.{written, exact, exactDivisor, Division, feeding}
 use Rattle.rules.specs.Counts.{countsOf, finishedCounts, noCounts}
-use Rattle.rules.specs.EntryPoints.{refiningRefusal, irregularCount, inMillimetres}
+use Rattle.rules.specs.EntryPoints.{refiningRefusal, rangeKept, irregularCount, inMillimetres}
 use Rattle.rules.specs.StoredForm.{indexWidth, storedForm, storedMesh, readingRefusal}
 use Rattle.rules.specs.Viewer.{fixedCounts, fixedLent, viewerAnswer}
 use Rattle.rules.specs.Listing.{listing}
-use Rattle.rules.specs.SampleMeshes.{line, wire, bar, square, cube, sides, grid, dots, hub, mixed, barBytes}
+use Rattle.rules.specs.SampleMeshes.{line, wire, bar, square, cube, sides, grid, dots, hub, span, lowHub, wideCube, mixed, barBytes}
 
 -- what a row says of its mesh after its rounds
 pub data Claim : Type 0 where
@@ -51,6 +51,8 @@ pub data Claim : Type 0 where
   millimetres : ℤ → Float → Claim
   -- refining, with the listing program's memory, is refused with this number; 0 is no refusal
   refused : ℕ → Claim
+  -- whether every coordinate is in range, before any round and after each
+  inRange : List Bool → Claim
   -- reading these bytes into tables of the given counts is refused with this number
   unread : List ℕ → Counts → ℕ → Claim
 
@@ -86,6 +88,7 @@ Says m k f (lists bs) = listing (k ∷ storedForm m) ≡ bs
 Says m k f (answers room z) = viewerAnswer (storedForm m) k (replicate room 0) ≡ z
 Says m k f (millimetres z x) = inMillimetres z ≡ x
 Says m k f (refused n) = refiningRefusal m k fixedLent ≡ n
+Says m k f (inRange bs) = rangeKept k m ≡ bs
 Says m k f (unread bs room n) = readingRefusal bs room ≡ n
 
 abbrev pub Holds : Row → Type 0
@@ -189,6 +192,20 @@ rows =
     ∷ row (wire (pos 536870912 ∷ []) [] (0 ∷ [])) 1 (refused 3)
     ∷ row (wire (negsuc 536870911 ∷ []) [] (0 ∷ [])) 1 (refused 0)
     ∷ row (wire (negsuc 536870912 ∷ []) [] (0 ∷ [])) 1 (refused 3)
+    -- at both ends of the range, through several rounds: what is in range stays in range
+    ∷ row (span []) 1 (vertices 0 (line (negsuc 268435456 ∷ pos 268435455 ∷ negsuc 0 ∷ [])))
+    ∷ row (span []) 3 (inRange (replicate 4 true))
+    ∷ row (span (0 ∷ 1 ∷ [])) 1 (vertices 0 (line (negsuc 536870911 ∷ pos 536870911 ∷ negsuc 0 ∷ [])))
+    ∷ row (wire (pos 536870911 ∷ []) [] (0 ∷ [])) 8 (vertices 0 (line (pos 536870911 ∷ [])))
+    ∷ row (wire (pos 536870911 ∷ []) [] (0 ∷ [])) 8 (inRange (replicate 9 true))
+    ∷ row lowHub 1 (vertices 0 (replicate 171 (negsuc 536870911)))
+    ∷ row lowHub 1 (inRange (true ∷ true ∷ []))
+    ∷ row wideCube 2 (inRange (true ∷ true ∷ true ∷ []))
+    -- what is refused with 3 is out of range before any round, and may come back or not
+    ∷ row (wire (pos 0 ∷ pos 536870912 ∷ []) (0 ∷ 1 ∷ []) []) 1 (inRange (false ∷ true ∷ []))
+    ∷ row (wire (pos 0 ∷ negsuc 536870912 ∷ []) (0 ∷ 1 ∷ []) []) 1 (inRange (false ∷ true ∷ []))
+    ∷ row (wire (pos 536870912 ∷ []) [] (0 ∷ [])) 1 (inRange (false ∷ false ∷ []))
+    ∷ row (wire (pos 0 ∷ pos 536870912 ∷ []) (0 ∷ 1 ∷ []) []) 0 (inRange (false ∷ []))
     -- "corner 7 of 8 vertices passes and 8 gets 4"; "empty vertex tables get 2"
     ∷ row (cube []) 1 (refused 0)
     ∷ row (cube (5 ∷ 6 ∷ 7 ∷ 8 ∷ [])) 1 (refused 4)

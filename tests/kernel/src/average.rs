@@ -1,7 +1,7 @@
 //! The averaging of one round (document 01, "Average" and "Rounding").
 
-use crate::mesh::{corner_count, Mesh, GREATEST_COORDINATE, LEAST_COORDINATE};
-use crate::refusal::Refusal;
+use crate::checks::is_out_of_range;
+use crate::mesh::{corner_count, Mesh};
 use crate::split::{Number, Split};
 use std::collections::BTreeSet;
 
@@ -90,18 +90,16 @@ impl Round {
         self.sums[3 * vertex + axis].rem_euclid(self.holdings[vertex].divisor())
     }
 
-    /// The fine mesh, or 12 when a coordinate is out of range.
-    pub fn fine_mesh(&self) -> Result<Mesh, Refusal> {
-        let mut vertices = Vec::with_capacity(self.sums.len());
-        for place in 0..self.sums.len() {
-            let coordinate = self.written(place / 3, place % 3);
-            if coordinate < i128::from(LEAST_COORDINATE) || coordinate > i128::from(GREATEST_COORDINATE) {
-                return Err(Refusal::CoordinateLeftRange);
-            }
-            vertices.push(coordinate as i32);
-        }
+    /// The fine mesh. That no round leaves the range is proved of the other kernel; here every coordinate is looked at.
+    pub fn fine_mesh(&self) -> Mesh {
+        let in_range = |place: usize| {
+            let coordinate = i32::try_from(self.written(place / 3, place % 3)).expect("a coordinate fits 32 bits");
+            assert!(!is_out_of_range(coordinate), "a round leaves the range: {coordinate}");
+            coordinate
+        };
+        let vertices = (0..self.sums.len()).map(in_range).collect();
         let [points, segments, quads, hexes] = self.split.tables.clone();
-        Ok(Mesh { vertices, hexes, quads, segments, points })
+        Mesh { vertices, hexes, quads, segments, points }
     }
 
     /// The coarse vertices that each fine vertex draws on: every corner of the parents of its counted cells.
@@ -120,17 +118,16 @@ impl Round {
     }
 }
 
-/// The mesh after the given rounds, 12 tested after each.
-pub fn refined(mesh: &Mesh, rounds: u32) -> Result<Mesh, Refusal> {
-    (0..rounds).try_fold(mesh.clone(), |coarse, _| Round::of(&coarse).fine_mesh())
+/// The mesh after the given rounds.
+pub fn refined(mesh: &Mesh, rounds: u32) -> Mesh {
+    (0..rounds).fold(mesh.clone(), |coarse, _| Round::of(&coarse).fine_mesh())
 }
 
 /// The first mesh and the mesh after each round.
 pub fn stages(mesh: &Mesh, rounds: u32) -> Vec<Mesh> {
     let mut stages = vec![mesh.clone()];
     for round in 0..rounds as usize {
-        let fine = Round::of(&stages[round]).fine_mesh().expect("no coordinate leaves its range");
-        stages.push(fine);
+        stages.push(Round::of(&stages[round]).fine_mesh());
     }
     stages
 }

@@ -100,11 +100,11 @@ impl Kernel for Oracle {
     }
 }
 
-/// Checks 1 to 11, then the rounds with 12 after each, then the output.
+/// Checks 1 to 11, then the rounds, then the output.
 fn refine(mesh: &Mesh, rounds: u32, lent: &mut Lent) -> Result<Counts, Refusal> {
     let finished = check_refining(mesh, rounds)?;
     refuse_if(lent.is_short(finished), Refusal::ShortBuffer)?;
-    let fine = refined(mesh, rounds)?;
+    let fine = refined(mesh, rounds);
     lent.output.overwrite(&fine);
     Ok(fine.counts())
 }
@@ -115,7 +115,7 @@ pub fn refine_within(stored: &[u8], rounds: u32, places: [usize; 5]) -> Result<M
     let finished = check_refining(&mesh, rounds)?;
     let short = places.iter().zip(finished).any(|(&places, count)| places < count);
     refuse_if(short, Refusal::ShortBuffer)?;
-    refined(&mesh, rounds)
+    Ok(refined(&mesh, rounds))
 }
 
 /// Checks 1 to 4, then 11; answers with the count of bytes.

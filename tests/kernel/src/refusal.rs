@@ -1,6 +1,7 @@
 //! The refusals by their numbers (document 01, "Refused meshes and files").
 
-/// The names are the trade's words of document 01.
+/// Document 01's words stand beside the field's terms. 12, strayed, is retired: no round leaves the range, and no later
+/// refusal takes the number.
 #[repr(u32)]
 #[derive(Clone, Copy, Debug, PartialEq, Eq, PartialOrd, Ord, Hash)]
 pub enum Refusal {
@@ -23,8 +24,6 @@ pub enum Refusal {
     TooManyRounds = 9,
     TooLarge = 10,
     ShortBuffer = 11,
-    /// document 01: strayed
-    CoordinateLeftRange = 12,
     /// document 01: wrong length
     WrongFileLength = 13,
     UnknownForm = 14,

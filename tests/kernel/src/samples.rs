@@ -1,6 +1,6 @@
-//! The foundry samples of document 01 as meshes, and three larger ones.
+//! The foundry samples of document 01 as meshes, some at the ends of the range, and larger ones.
 
-use crate::mesh::Mesh;
+use crate::mesh::{Mesh, GREATEST_COORDINATE, LEAST_COORDINATE};
 
 /// A mesh on the first axis, 0 on the others.
 pub fn on_axis(coordinates: &[i32]) -> Mesh {
@@ -80,6 +80,29 @@ pub fn uneven_segments() -> Mesh {
 /// Two segments from 0 to 8 that share no vertex: they only touch by coordinates.
 pub fn touching_segments() -> Mesh {
     Mesh { segments: vec![0, 1, 2, 3], ..on_axis(&[0, 8, 0, 8]) }
+}
+
+/// The whole range on one axis: a segment from the least to the greatest coordinate.
+pub fn span() -> Mesh {
+    segments_from_first(&[LEAST_COORDINATE, GREATEST_COORDINATE])
+}
+
+/// The span with a point at each end.
+pub fn pinned_span() -> Mesh {
+    Mesh { points: vec![0, 1], ..span() }
+}
+
+/// Three blocks round an edge, with every coordinate the least one.
+pub fn low_hub() -> Mesh {
+    let mut mesh = hub(3, 8.0, 8);
+    mesh.vertices.fill(LEAST_COORDINATE);
+    mesh
+}
+
+/// P9 from the least to the greatest coordinate on each axis.
+pub fn wide_cube() -> Mesh {
+    let end = |coordinate: i32| if coordinate == 0 { LEAST_COORDINATE } else { GREATEST_COORDINATE };
+    Mesh { vertices: p9().vertices.into_iter().map(end).collect(), ..p9() }
 }
 
 /// Blocks round a common edge: each spans two steps of a ring of 2n places.

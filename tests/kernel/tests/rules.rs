@@ -24,7 +24,7 @@ fn held(mesh: &Mesh) -> Vec<Holding> {
 #[test]
 fn a_rounds_output_is_sound_again() {
     for mesh in meshes(1, 150) {
-        assert_eq!(check_mesh(&refined(&mesh, 1).unwrap(), 8), Ok(()));
+        assert_eq!(check_mesh(&refined(&mesh, 1), 8), Ok(()));
     }
 }
 
@@ -39,7 +39,7 @@ fn finished_counts_follow_the_closed_form() {
             assert_eq!(finished_counts(&mesh, n), wanted);
         }
         for n in (0..3).filter(|&n| finished_counts(&mesh, n)[0] < 3000) {
-            assert_eq!(refined(&mesh, n).unwrap().places(), finished_counts(&mesh, n));
+            assert_eq!(refined(&mesh, n).places(), finished_counts(&mesh, n));
         }
     }
 }
@@ -47,7 +47,7 @@ fn finished_counts_follow_the_closed_form() {
 #[test]
 fn a_round_multiplies_edges_and_faces_as_the_paper_says() {
     for mesh in meshes(3, 100) {
-        let (coarse, fine) = (Parts::of(&mesh), Parts::of(&refined(&mesh, 1).unwrap()));
+        let (coarse, fine) = (Parts::of(&mesh), Parts::of(&refined(&mesh, 1)));
         let (e, f, h) = (coarse.edges.len(), coarse.faces.len(), mesh.cell_count(3));
         assert_eq!(fine.edges.len(), 2 * e + 4 * f + 6 * h);
         assert_eq!(fine.faces.len(), 4 * f + 12 * h);
@@ -66,7 +66,7 @@ fn an_old_vertex_keeps_its_rank_and_valence() {
 #[test]
 fn old_vertices_follow_equation_2() {
     for mesh in meshes(5, 150) {
-        let (fine, held) = (refined(&mesh, 1).unwrap(), held(&mesh));
+        let (fine, held) = (refined(&mesh, 1), held(&mesh));
         for (vertex, holding) in held.iter().enumerate() {
             let counted = mesh.rows(holding.rank).filter(|cell| cell.contains(&(vertex as u32)));
             let mut sum = [0i64; 3];
@@ -150,14 +150,14 @@ fn the_third_property_fails_of_a_changed_coordinate() {
 #[test]
 fn coordinates_stay_in_the_bounding_box_and_follow_a_shift() {
     for mesh in meshes(8, 60) {
-        let fine = refined(&mesh, 1).unwrap();
+        let fine = refined(&mesh, 1);
         let (coarse_box, fine_box) = (bounding_box(&mesh), bounding_box(&fine));
         assert!((0..3).all(|axis| coarse_box[axis].0 <= fine_box[axis].0 && fine_box[axis].1 <= coarse_box[axis].1));
         let mut moved = mesh.clone();
         moved.vertices.iter_mut().for_each(|coordinate| *coordinate /= 2);
         let mut shifted = moved.clone();
         shifted.vertices.iter_mut().for_each(|coordinate| *coordinate += 12_345);
-        let (a, b) = (refined(&moved, 1).unwrap(), refined(&shifted, 1).unwrap());
+        let (a, b) = (refined(&moved, 1), refined(&shifted, 1));
         assert!(a.vertices.iter().zip(&b.vertices).all(|(a, b)| a + 12_345 == *b));
     }
 }
@@ -166,7 +166,7 @@ fn coordinates_stay_in_the_bounding_box_and_follow_a_shift() {
 #[test]
 fn relabelling_moves_no_vertex() {
     let positions = |mesh: &Mesh| {
-        let fine = refined(mesh, 1).unwrap();
+        let fine = refined(mesh, 1);
         let mut list: Vec<[i32; 3]> = (0..fine.vertex_count()).map(|vertex| fine.position(vertex)).collect();
         list.sort_unstable();
         list

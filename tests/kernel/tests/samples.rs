@@ -13,7 +13,7 @@ use oracle::stored::{encode, index_width};
 
 /// The first-axis coordinates after so many rounds; the other axes must be 0.
 fn along(mesh: &Mesh, rounds: u32) -> Vec<i32> {
-    let fine = refined(mesh, rounds).unwrap();
+    let fine = refined(mesh, rounds);
     assert!(fine.vertices.chunks(3).all(|vertex| vertex[1..] == [0, 0]));
     fine.vertices.iter().step_by(3).copied().collect()
 }
@@ -66,21 +66,21 @@ fn p6_leaves_16_of_48() {
 
 #[test]
 fn p7_is_a_quad() {
-    assert_eq!(refined(&p7(), 1).unwrap().position(0), [2, 2, 0]);
+    assert_eq!(refined(&p7(), 1).position(0), [2, 2, 0]);
 }
 
 #[test]
 fn p8_is_a_cube_and_p10_is_p8_twice() {
-    let fine = refined(&p8(), 1).unwrap();
+    let fine = refined(&p8(), 1);
     assert_eq!((fine.vertex_count(), fine.cell_count(3)), (27, 8));
     assert_eq!((fine.position(0), fine.position(8)), ([2, 2, 2], [4, 2, 2]));
-    let finer = refined(&p8(), 2).unwrap();
+    let finer = refined(&p8(), 2);
     assert_eq!((finer.vertex_count(), finer.cell_count(3)), (125, 64));
 }
 
 #[test]
 fn p9_is_p8_with_its_faces() {
-    let fine = refined(&p9(), 1).unwrap();
+    let fine = refined(&p9(), 1);
     assert_eq!((fine.position(0), fine.position(6), fine.position(8)), ([1, 1, 1], [6, 6, 6], [4, 1, 1]));
 }
 
@@ -109,7 +109,7 @@ fn the_listing_of_p1_is_the_papers() {
 #[test]
 fn a_lone_point_stays_and_nine_rounds_are_too_many() {
     let mesh = lone_point([-3, 536_870_911, 7]);
-    assert_eq!(refined(&mesh, 8).unwrap(), mesh);
+    assert_eq!(refined(&mesh, 8), mesh);
     assert_eq!((answer(&mesh, 8), answer(&mesh, 9)), (0, 9));
 }
 
@@ -118,6 +118,17 @@ fn the_greatest_coordinate_passes_and_the_next_is_far() {
     assert_eq!(answer(&lone_point([536_870_911, -536_870_912, 0]), 1), 0);
     assert_eq!(answer(&lone_point([0, 536_870_912, 0]), 1), 3);
     assert_eq!(answer(&lone_point([0, 0, -536_870_913]), 1), 3);
+}
+
+/// At both ends of the range, through several rounds: `stages` looks at every coordinate of every round.
+#[test]
+fn no_round_leaves_the_range() {
+    assert_eq!(along(&span(), 1), [-268_435_457, 268_435_455, -1]);
+    assert_eq!(along(&pinned_span(), 1), [-536_870_912, 536_870_911, -1]);
+    assert_eq!(along(&Mesh { points: vec![0], ..on_axis(&[536_870_911]) }, 8), [536_870_911]);
+    let hubs = stages(&low_hub(), 2);
+    assert!(hubs.iter().all(|mesh| mesh.vertices.iter().all(|&coordinate| coordinate == -536_870_912)));
+    assert_eq!((stages(&span(), 8).len(), stages(&wide_cube(), 3).len()), (9, 4));
 }
 
 #[test]

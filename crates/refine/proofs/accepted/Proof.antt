@@ -1,31 +1,31 @@
 -- `refine::accepted` meets its contract: the copy is refined in place. Assumes nothing.
-use mathlib.Core.Path.{_≡_, _∙_}
+use mathlib.Core.Path.{_∙_}
 use borrow.Author.Needs.{needs}
-use denote.Ref.{now}
-use Rattle.rules.specs.Mesh.{mesh}
 use Rattle.refine.proofs.Lending.{copy-fits, ready-copied, copy-refined}
 use Rattle.refine.proofs.accepted.Statement.{statement}
 use Rattle.refine.proofs.accepted.Tie as tie
 
-abbrev copied : tie.After-turns → tie.After-copy
-copied t = t .before .before .before .before .before .before .before .before .before .before .before .before .before .before .before .before .before .before .before .before .before .before
+-- from the return back to the rounds, from there to the copy, and to the start
+abbrev turned : tie.After-slice-known24 → tie.After-turns
+turned c = c .before .before .before .before .before .before .before .before .before .before .before .before .before .before .before .before .before .before .before .before .before .before
 
-abbrev start : tie.After-copy → tie.Start
-start p = p .before .before .before .before .before .before .before .before .before .before .before .before .before .before .before .before .before .before .before .before
+abbrev copied : tie.After-turns-arg12 → tie.After-copy
+copied c = c .before .before .before .before .before .before .before .before .before .before .before .before .before .before .before .before .before .before .before .before .before
+
+abbrev start : tie.After-copy-arg5 → tie.Start
+start c = c .before .before .before .before .before .before .before .before .before .before .before .before .before .before .before .before .before .before .before
 
 copy-requires : tie.Need-copy-requires
-copy-requires c κs = copy-fits (c .before .before .before .before .before .before .before .before .before .before .before .before .before .before .before .before .before .before .before .pre)
+copy-requires c κs = copy-fits (start c .pre)
 
 turns-requires : tie.Need-turns-requires
-turns-requires c κs =
-    let p = c .before .before .before .before .before .before .before .before .before .before .before .before .before .before .before .before .before .before .before .before .before in
-    ready-copied (start p .pre) _ (p .copy .ensures)
+turns-requires c κs = let p = copied c in ready-copied (start (p .before) .pre) _ (p .copy .ensures)
 
 returns : tie.Need-returns
 returns c =
-    let t = c .before .before .before .before .before .before .before .before .before .before .before .before .before .before .before .before .before .before .before .before .before .before in
-    let p = copied t in
-    copy-refined (start p .pre) _ (p .copy .ensures) _ _ (t .turns .ensures .0) (t .turns .ensures .1)
+    let t = turned c in
+    let p = copied (t .before) in
+    copy-refined (start (p .before) .pre) _ (p .copy .ensures) _ (t .turns .ensures)
 
 pub accepted-spec : {M : Type 1} → statement M
 accepted-spec =
@@ -33,11 +33,11 @@ accepted-spec =
     (tie.spec
     copy-requires
     turns-requires
-    (λ c. let t = c .before .before .before .before .before .before .before .before .before .before .before .before .before .before .before .before .before .before .before .before .before .before in t .turns .kept .1 .1 .0 ∙ copied t .copy .kept .1 .1 .1 .1 .1 .0)
-    (λ c. let t = c .before .before .before .before .before .before .before .before .before .before .before .before .before .before .before .before .before .before .before .before .before .before in t .turns .kept .1 .1 .1 .0 ∙ copied t .copy .kept .1 .1 .1 .1 .1 .1 .0)
-    (λ c. let t = c .before .before .before .before .before .before .before .before .before .before .before .before .before .before .before .before .before .before .before .before .before .before in t .turns .kept .1 .1 .1 .1 .0 ∙ copied t .copy .kept .1 .1 .1 .1 .1 .1 .1 .0)
-    (λ c. let t = c .before .before .before .before .before .before .before .before .before .before .before .before .before .before .before .before .before .before .before .before .before .before in t .turns .kept .1 .1 .1 .1 .1 .0 ∙ copied t .copy .kept .1 .1 .1 .1 .1 .1 .1 .1 .0)
-    (λ c. let t = c .before .before .before .before .before .before .before .before .before .before .before .before .before .before .before .before .before .before .before .before .before .before in t .turns .kept .1 .1 .1 .1 .1 .1 .0 ∙ copied t .copy .kept .1 .1 .1 .1 .1 .1 .1 .1 .1 .0)
+    (λ c. let t = turned c in t .turns .kept .1 .1 .0 ∙ copied (t .before) .copy .kept .1 .1 .1 .1 .1 .0)
+    (λ c. let t = turned c in t .turns .kept .1 .1 .1 .0 ∙ copied (t .before) .copy .kept .1 .1 .1 .1 .1 .1 .0)
+    (λ c. let t = turned c in t .turns .kept .1 .1 .1 .1 .0 ∙ copied (t .before) .copy .kept .1 .1 .1 .1 .1 .1 .1 .0)
+    (λ c. let t = turned c in t .turns .kept .1 .1 .1 .1 .1 .0 ∙ copied (t .before) .copy .kept .1 .1 .1 .1 .1 .1 .1 .1 .0)
+    (λ c. let t = turned c in t .turns .kept .1 .1 .1 .1 .1 .1 .0 ∙ copied (t .before) .copy .kept .1 .1 .1 .1 .1 .1 .1 .1 .1 .0)
     (λ c. search needs)
     (λ c. search needs)
     (λ c. search needs)

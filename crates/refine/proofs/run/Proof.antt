@@ -20,6 +20,17 @@ output d = working d .before .before .before .before .before .before
 abbrev start : tie.After-decide → tie.Start
 start d = output d .before .before .before .before .before .before .before .before .before .before .before .before .before .before .before .before .before .before .before .before
 
+-- from the rounds back to the test of the refusal, and to the decision
+abbrev passed : tie.After-accepted-arg12 → tie.Else1
+passed c = c .before .before .before .before .before .before .before .before .before .before .before .before
+
+abbrev decided : tie.Else1 → tie.After-decide
+decided i = i .before .before .before .before .before
+
+-- from the answer back to the rounds
+abbrev refined : tie.After-slice-known21 → tie.After-accepted
+refined c = c .before .before .before .before .before .before .before .before .before .before .before .before .before .before .before .before .before .before .before .before .before .before
+
 abbrev given : tie.Start → Mesh
 given s = let a = s .args in mesh (now (a .xs)) (now (a .hs)) (now (a .qs)) (now (a .ss)) (now (a .ps))
 
@@ -43,33 +54,32 @@ returns c =
 
 accepted-requires : tie.Need-accepted-requires
 accepted-requires c κs =
-    let i = c .before .before .before .before .before .before .before .before .before .before .before .before in
-    let d = i .before .before .before .before .before in
+    let i = passed c in
+    let d = decided i in
     let s = start d in
     ready-same (now (s .args .words)) _ (d .decide .kept .1 .1 .1 .1 .1 .1 .1 .0)
     (plan-ready (given s) (s .args .rounds) (out s) (work s) (now (s .args .words)) (now (s .args .longs)) _ _ (d .decide .ensures) (lent d) (i .if1 .left))
 
 answer-requires : tie.Need-answer-requires
 answer-requires c κs =
-    let i = c .before .before .before .before .before .before .before .before .before .before .before .before .before .before .before .before .before .before .before .before .before .before .before .before .before .before .before .before .before .before .before .before .before .before .before in
-    let d = i .before .before .before .before .before in
+    let i = passed (refined c .before) in
+    let d = decided i in
     let s = start d in
     plan-answerable (given s) (s .args .rounds) (out s) (work s) (now (s .args .words)) (now (s .args .longs)) _ _ (d .decide .ensures) (lent d) (i .if1 .left)
 
 -- the working numbers keep their length
 same-length-22 : tie.Need-same-length-22
 same-length-22 c =
-    let f = c .before .before .before .before .before .before .before .before .before .before .before .before .before .before .before .before .before .before .before .before .before .before .before in
-    let d = f .before .before .before .before .before .before .before .before .before .before .before .before .before .before .before .before .before .before in
-    f .accepted .kept .1 .1 .1 .1 .1 .1 .1 .1 .1 .1 .1 .1 .1 .1 .1 .1 .1 .0 ∙ d .decide .kept .1 .1 .1 .1 .1 .1 .1 .0
+    let f = refined (c .before) in
+    f .accepted .kept .1 .1 .1 .1 .1 .1 .1 .1 .1 .1 .1 .1 .1 .1 .1 .1 .1 .0 ∙ decided (passed (f .before)) .decide .kept .1 .1 .1 .1 .1 .1 .1 .0
 
 returns-2 : tie.Need-returns-2
 returns-2 c =
-    let f = c .before .before .before .before .before .before .before .before .before .before .before .before .before .before .before .before .before .before .before .before .before .before .before in
-    let i = f .before .before .before .before .before .before .before .before .before .before .before .before .before in
-    let d = i .before .before .before .before .before in
+    let f = refined (c .before) in
+    let i = passed (f .before) in
+    let d = decided i in
     let s = start d in
-    plan-accepted (given s) (s .args .rounds) (out s) (work s) (now (s .args .words)) (now (s .args .longs)) _ _ (d .decide .ensures) (lent d) (i .if1 .left) (f .accepted .result) (c .answer .result) _ (f .accepted .ensures .0) (c .answer .ensures) (f .accepted .ensures .1)
+    plan-accepted (given s) (s .args .rounds) (out s) (work s) (now (s .args .words)) (now (s .args .longs)) _ _ (d .decide .ensures) (lent d) (i .if1 .left) (c .answer .result) _ (c .answer .ensures) (f .accepted .ensures)
 
 pub run-spec : {M : Type 1} → statement M
 run-spec =
@@ -93,16 +103,16 @@ run-spec =
     returns
     accepted-requires
     answer-requires
-    (λ c. search needs)
-    (λ c. search needs)
-    (λ c. search needs)
-    (λ c. search needs)
-    (λ c. search needs)
-    (λ c. search needs)
-    (λ c. search needs)
-    (λ c. search needs)
-    (λ c. search needs)
-    (λ c. search needs)
+    (λ c. refined (c .before) .accepted .kept .1 .1 .1 .1 .1 .1 .1 .0)
+    (λ c. refined (c .before) .accepted .kept .1 .1 .1 .1 .1 .1 .1 .1 .0)
+    (λ c. refined (c .before) .accepted .kept .1 .1 .1 .1 .1 .1 .1 .1 .1 .0)
+    (λ c. refined (c .before) .accepted .kept .1 .1 .1 .1 .1 .1 .1 .1 .1 .1 .0)
+    (λ c. refined (c .before) .accepted .kept .1 .1 .1 .1 .1 .1 .1 .1 .1 .1 .1 .0)
+    (λ c. refined (c .before) .accepted .kept .1 .1 .1 .1 .1 .1 .1 .1 .1 .1 .1 .1 .0)
+    (λ c. refined (c .before) .accepted .kept .1 .1 .1 .1 .1 .1 .1 .1 .1 .1 .1 .1 .1 .0)
+    (λ c. refined (c .before) .accepted .kept .1 .1 .1 .1 .1 .1 .1 .1 .1 .1 .1 .1 .1 .1 .0)
+    (λ c. refined (c .before) .accepted .kept .1 .1 .1 .1 .1 .1 .1 .1 .1 .1 .1 .1 .1 .1 .1 .0)
+    (λ c. refined (c .before) .accepted .kept .1 .1 .1 .1 .1 .1 .1 .1 .1 .1 .1 .1 .1 .1 .1 .1 .0)
     same-length-22
-    (λ c. search needs)
+    (λ c. refined (c .before) .accepted .kept .1 .1 .1 .1 .1 .1 .1 .1 .1 .1 .1 .1 .1 .1 .1 .1 .1 .1 .0)
     returns-2)

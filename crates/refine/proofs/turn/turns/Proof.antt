@@ -1,22 +1,14 @@
--- `refine::turn::turns` meets its contract: after k rounds the output tables begin with the mesh after k rounds, and no round leaves the range.
--- Assumes nothing.
-use mathlib.Core.Path.{_≡_, refl, sym, ap, subst, _∙_}
-use mathlib.Core.Bool.{Bool, true, false}
-use Prim.Native.Nat.{ℕ, suc, _+_, _-_, _*_, _≤_, _<_}
+-- `refine::turn::turns` meets its contract: after k rounds the output tables begin with the mesh after k rounds. Assumes nothing.
+use mathlib.Core.Path.{_≡_, ap, _∙_}
+use Prim.Native.Nat.{ℕ, _-_}
 use native.Mathlib.Numerals.{add-one}
 use native.Mathlib.Omega.{arith}
-use borrow.Author.Needs.{needs}
 use denote.Ref.{now}
-use lib.ListN.{length}
-use Rattle.rules.specs.Mesh.{Mesh, mesh}
+use Rattle.rules.specs.Mesh.{mesh}
 use Rattle.rules.specs.Averaging.{refined}
-use Rattle.rules.specs.Refusals.{check, leavesRange}
 use Rattle.rules.specs.EntryPoints.{resultTables}
-use Rattle.lists.proofs.Tests.{false≢true}
-use Rattle.accuracy.proofs.Accepted.{never-leaves-range}
 use Rattle.refine.specs.Front.{front}
-use Rattle.refine.specs.Ready.{ReadyFor}
-use Rattle.refine.proofs.Turns.{Turning, turning-starts, turning-ready, turning-bounded, turning-next, turning-near, turning-covers}
+use Rattle.refine.proofs.Turns.{Turning, turning-starts, turning-ready, turning-bounded, turning-next}
 use Rattle.refine.proofs.turn.turns.Statement.{statement}
 use Rattle.refine.proofs.turn.turns.Tie as tie
 
@@ -28,70 +20,57 @@ abbrev μ-loop : tie.MeasureT-loop
 μ-loop rounds ox₀ oh₀ oq₀ os₀ op₀ wx₀ wh₀ wq₀ ws₀ wp₀ words₀ longs₀ sizes₀ k₀ ox oh oq os op wx wh wq ws wp words longs sizes k =
     rounds - k
 
--- from the test of the coordinates back to the call of a round, from there to the loop's head, and to the start
-abbrev called : tie.After-leaves-range-arg Inv-loop μ-loop → tie.After-turn Inv-loop μ-loop
-called c = c .before .before .before .before .before .before .before .before .before .before .before .before .before .before .before .before .before .before .before .before .before .before .before .before
+-- from the next sizes back to the call of a round, from there to the loop's head, and to the start
+abbrev called : tie.After-slice-known20 Inv-loop μ-loop → tie.After-turn Inv-loop μ-loop
+called c = c .before .before .before .before .before .before .before .before .before .before .before .before .before .before .before .before .before .before .before .before .before .before
 
-abbrev head : tie.After-turn Inv-loop μ-loop → tie.In-loop Inv-loop μ-loop
-head t = t .before .before .before .before .before .before .before .before .before .before .before .before .before
+abbrev head : tie.After-turn-arg12 Inv-loop μ-loop → tie.In-loop Inv-loop μ-loop
+head c = c .before .before .before .before .before .before .before .before .before .before .before .before
+
+abbrev first : tie.After-slice-known10 Inv-loop μ-loop → tie.Start Inv-loop μ-loop
+first c = c .before .before .before .before .before .before .before .before .before .before
 
 abbrev start : tie.In-loop Inv-loop μ-loop → tie.Start Inv-loop μ-loop
-start l = l .before .before .before .before .before .before .before .before .before .before .before .before
+start l = first (l .before .before)
 
 loop-holds : tie.Need-loop-holds Inv-loop μ-loop
-loop-holds c = let s = c .before .before .before .before .before .before .before .before .before .before in turning-starts (s .pre)
+loop-holds c = turning-starts (first c .pre)
 
 turn-requires : tie.Need-turn-requires Inv-loop μ-loop
-turn-requires c κs = let l = c .before .before .before .before .before .before .before .before .before .before .before .before in turning-ready (start l .pre) (l .before .loop .inv) (l .loop-test .taken)
+turn-requires c κs = let l = head c in turning-ready (start l .pre) (l .before .loop .inv) (l .loop-test .taken)
 
 next-sizes-requires : tie.Need-next-sizes-requires Inv-loop μ-loop
-next-sizes-requires c κs = let l = c .before .before .before .before .before .before .before .before .before .before .before .before .before .before .before .before .before .before .before .before .before .before .before .before .before .before .before .before .before .before .before .before .before .before .before in turning-bounded (start l .pre) (l .before .loop .inv) (l .loop-test .taken)
-
-leaves-range-requires : tie.Need-leaves-range-requires Inv-loop μ-loop
-leaves-range-requires c κs =
-    let t = called c in
-    let l = head t in
-    turning-covers (start l .pre) (l .before .loop .inv) (l .loop-test .taken) (c .before .next-sizes .ensures) (t .turn .ensures)
-
--- no round leaves the range
-dead : tie.Then1 Inv-loop μ-loop → ⊥
-dead c =
-    let t = called (c .before .before) in
-    let l = head t in
-    let near = turning-near (start l .pre) (l .before .loop .inv) (l .loop-test .taken) (c .before .before .before .next-sizes .ensures) (t .turn .ensures) in
-    false≢true (sym near ∙ sym (c .before .leaves-range .ensures) ∙ c .if1 .taken)
+next-sizes-requires c κs = let l = head (called c .before) in turning-bounded (start l .pre) (l .before .loop .inv) (l .loop-test .taken)
 
 add-k : tie.Need-add-k Inv-loop μ-loop
 add-k c =
-    let l = head (called (c .before .before)) in
+    let l = head (called (c .before) .before) in
     omega (arith, l .loop-test .taken, start l .fits .rounds)
 
 loop-less : tie.Need-loop-less Inv-loop μ-loop
-loop-less c = omega (arith, head (called (c .before .before)) .loop-test .taken)
+loop-less c = omega (arith, head (called (c .before) .before) .loop-test .taken)
 
 loop-again : tie.Need-loop-again Inv-loop μ-loop
 loop-again c =
-    let t = called (c .before .before) in
-    let l = head t in
+    let t = called (c .before) in
+    let l = head (t .before) in
     let kept = t .turn .kept .1 in
     rw (add-one (l .before .loop .k))
-    (turning-next (start l .pre) (l .before .loop .inv) (l .loop-test .taken) (c .before .before .before .next-sizes .ensures) (t .turn .ensures) (t .turn .last .1 .1 .1 .1 .1 .1 .1 .1 .1 .1 .1 .0) (t .turn .last .1 .1 .1 .1 .1 .1 .1 .1 .1 .1 .1 .1 .0)
+    (turning-next (start l .pre) (l .before .loop .inv) (l .loop-test .taken) (c .next-sizes .ensures) (t .turn .ensures) (t .turn .last .1 .1 .1 .1 .1 .1 .1 .1 .1 .1 .1 .0) (t .turn .last .1 .1 .1 .1 .1 .1 .1 .1 .1 .1 .1 .1 .0)
     (record { vertices = (kept .0); hexes = (kept .1 .0); quads = (kept .1 .1 .0); segments = (kept .1 .1 .1 .0); points = (kept .1 .1 .1 .1 .0) })
     (record { vertices = (kept .1 .1 .1 .1 .1 .0); hexes = (kept .1 .1 .1 .1 .1 .1 .0); quads = (kept .1 .1 .1 .1 .1 .1 .1 .0); segments = (kept .1 .1 .1 .1 .1 .1 .1 .1 .0); points = (kept .1 .1 .1 .1 .1 .1 .1 .1 .1 .0) })
     (kept .1 .1 .1 .1 .1 .1 .1 .1 .1 .1 .0) (kept .1 .1 .1 .1 .1 .1 .1 .1 .1 .1 .1 .0))
 
-returns-2 : tie.Need-returns-2 Inv-loop μ-loop
-returns-2 c =
+returns : tie.Need-returns Inv-loop μ-loop
+returns c =
     let l = c .before in
-    let s = l .before .before .before .before .before .before .before .before .before .before .before in
+    let s = first (l .before) in
     let a = s .args in
     let out = mesh (now (a .ox)) (now (a .oh)) (now (a .oq)) (now (a .os)) (now (a .op)) in
     let m = front (a .start) out in
     let i = l .loop .inv in
-    let e : l .loop .k ≡ a .rounds = omega (arith, c .loop-test .left, i .upTo) in (
-      sym (ap (λ (b : Bool). check b 12 0) (never-leaves-range m (s .pre .accepted) (a .rounds))),
-      i .holds ∙ ap (λ (k : ℕ). resultTables 0 out (refined k m)) e,
-    )
+    let e : l .loop .k ≡ a .rounds = omega (arith, c .loop-test .left, i .upTo) in
+    i .holds ∙ ap (λ (k : ℕ). resultTables 0 out (refined k m)) e
 
 pub turns-spec : {M : Type 1} → statement M
 turns-spec =
@@ -102,20 +81,6 @@ turns-spec =
     loop-holds
     turn-requires
     next-sizes-requires
-    leaves-range-requires
-    (λ c. absurd (dead c))
-    (λ c. absurd (dead c))
-    (λ c. absurd (dead c))
-    (λ c. absurd (dead c))
-    (λ c. absurd (dead c))
-    (λ c. absurd (dead c))
-    (λ c. absurd (dead c))
-    (λ c. absurd (dead c))
-    (λ c. absurd (dead c))
-    (λ c. absurd (dead c))
-    (λ c. absurd (dead c))
-    (λ c. absurd (dead c))
-    (λ c. absurd (dead c))
     add-k
     loop-less
     loop-again
@@ -131,4 +96,4 @@ turns-spec =
     (λ c. c .before .loop .inv .sameWork .points)
     (λ c. c .before .loop .inv .sameWords)
     (λ c. c .before .loop .inv .sameLongs)
-    returns-2)
+    returns)
