@@ -36,7 +36,7 @@ enum mlca_refusal {
     MLCA_RESULT_TOO_LARGE = 10,       /* the finished mesh would pass the ranges of 2 (too large) */
     MLCA_SHORT_BUFFER = 11,           /* a lent buffer is too short (short buffer) */
     /* 12 is retired. It stood for a coordinate that a round left out of range (strayed), which is proved never to
-       happen: no call gives it, and no later refusal takes the number. */
+       happen: no call gives it, and the number is never used again. */
     MLCA_WRONG_FILE_LENGTH = 13,      /* under 13 bytes, or not the length that the header calls for (wrong length) */
     MLCA_UNKNOWN_FORM = 14,           /* the form number is not 1 (unknown form) */
     MLCA_WRONG_INDEX_WIDTH = 15,      /* the index width is not that of the vertex count (wrong width) */
@@ -113,8 +113,8 @@ mlca_millimetres_answer mlca_millimetres(int32_t x, int32_t y, int32_t z);
    Checks: 1 to 11 in order, each over the whole mesh, before any round.
    output_*: the finished mesh in the first entries of each table, the rest unchanged; after a refusal all unchanged.
        Each coordinate is the exact one where no division that leads to it left a remainder. Otherwise it is below the
-       exact one, by less than one unit for each round. It never leaves the first mesh's bounding box. No round leaves a
-       coordinate out of the range of 3, neither the last nor one on the way.
+       exact one, by less than one unit for each round. It never leaves the first mesh's bounding box. No round,
+       neither the last nor one on the way, leaves a coordinate out of the range that check 3 asks for.
    working_*, numbers32, numbers64: may hold anything before; all zero after, refused or not.
    Lend, for the finished counts: 3 numbers a vertex, 8 a hex, 4 a quad, 2 a segment and 1 a point, in the output tables
        and in the working tables; 8 numbers32 and 3 numbers64 a vertex. Less of any of them is refused with 11, with 0

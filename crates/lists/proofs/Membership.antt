@@ -182,7 +182,7 @@ module _ {A : Type 0} where
   getD-run f z a (suc n) zero h = ap f (omega arith)
   getD-run f z a (suc n) (suc i) h = getD-run f z (suc a) n i (omega arith) ∙ ap f (omega arith)
 
-  -- f is the same of each number
+  -- where f has one value
   pub run-same : (f : ℕ → A) (z : A) (a n : ℕ) → ((k : ℕ) → f k ≡ z) → map f (upFrom a n) ≡ replicate n z
   unfolding upFrom
   run-same f z a zero e = refl

@@ -13,7 +13,7 @@ ghost use Rattle.accuracy.specs.Property3.{Property3};
 ghost use Rattle.stored.specs.Inverse.{WritesBack, ReadsBack};
 
 // Refining, for every input: document 01's answer; the finished mesh at the front of the output tables, which a refusal leaves as they were;
-// all working memory zero; and of each finished vertex and axis the third property.
+// all working memory zero; of each finished vertex and axis the third property; and every coordinate of every round in range.
 #[no_mangle]
 pub extern "C" fn mlca_refine_tables(
     xs: &[i32],

@@ -1,6 +1,7 @@
 // Refining (document 01, 'Lent memory'): checks 1 to 11, the rounds, the finished mesh in the output tables, working memory all zero.
 // Rests on `checks` for the checks of a mesh, `counting` for its sizes after the rounds, `splitting` and `averaging` for a round, `memory`.
-// Promises of `refine`, for every input: the rules' answer, output tables and cleared memory, and the third property of what it wrote.
+// Promises of `refine`, for every input: the rules' answer, output tables and cleared memory, the third property of what it wrote, and that no
+// round leaves the range of coordinates.
 use crate::plan::Lent;
 use crate::plan::decide;
 use crate::tables::clear;
@@ -180,7 +181,7 @@ fn run(
 }
 
 // Refining, for every input: document 01's answer; the finished mesh at the front of the output tables, which a refusal leaves as they were;
-// all working memory zero; and of each finished vertex and axis the third property.
+// all working memory zero; of each finished vertex and axis the third property; and every coordinate of every round in range.
 pub fn refine(
     xs: &[i32],
     hs: &[u32],

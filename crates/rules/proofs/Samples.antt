@@ -19,4 +19,4 @@ use Rattle.rules.specs.Samples.{rows, Samples}
 
 pub samples : Samples
 unfolding any keep repeats concat entries cut overwritten concatMap upFrom has insert keyOf same indexOf meet meetAll distinct topology meshOf whole singles byDimension places cellParts firstHolding smallest cornersAt keyAt met distinctParts parts fineVertex child children splitBy split floorDiv floorMod holding orElse counted rank valence eighths cellDraws meanAt means axis averaged round refined roundsOf written common exactDivisor exact feeding sizes nextSizes sizesAfter countsIn countsOf finishedCounts outOfRange fewer partialEntry countOutOfRange outside coordinateOutOfRange cornerOutOfRange repeatedCorner duplicateCell ring mismatched mismatchedFace isolatedVertex tooLarge tableChecks meshChecks shortForRefining refiningRefusal rangeKept irregular irregularCount inMillimetres odd number firstBits fieldAt tableAt bitsIn spelled bytesFor bytesOf packed encode digitsIn binaryDigits widthOf toField ofField tableFields headerFields indexWidth meshFields storedForm headerOf layout storedMesh headerCut wrongLength unknownForm wrongWidth spareBits readingRefusal storedRefiningRefusal viewerRefusal viewerAnswer writingRefusal decimalIn decimal signedDecimal fields listingLine refusedLine meshLine vertexLine cellLines meshLines listingRefusal listing line wire bar square square8 cube sides grid dots hub span lowHub wideCube mixed barBytes rows
-samples = (refl, (refl, (refl, (refl, (refl, (refl, (refl, (refl, (refl, (refl, (refl, (refl, (refl, (refl, (refl, (refl, (refl, (refl, (refl, (refl, (refl, (refl, (refl, (refl, (refl, (refl, (refl, (refl, (refl, (refl, (refl, (refl, (refl, (refl, (refl, (refl, (refl, (refl, (refl, (refl, (refl, (refl, (refl, (refl, (refl, (refl, (refl, (refl, (refl, (refl, (refl, (refl, (refl, (refl, (refl, (refl, (refl, (refl, (refl, (refl, (refl, (refl, (refl, (refl, (refl, (refl, (refl, (refl, (refl, (refl, (refl, (refl, (refl, (refl, (refl, (refl, (refl, (refl, (refl, (refl, (refl, (refl, (refl, (refl, (refl, (refl, (refl, (refl, (refl, (refl, (refl, (refl, (refl, (refl, (refl, (refl, (refl, (refl, (refl, (refl, tt))))))))))))))))))))))))))))))))))))))))))))))))))))))))))))))))))))))))))))))))))))))))))))))))))))
+samples = (refl, (refl, (refl, (refl, (refl, (refl, (refl, (refl, (refl, (refl, (refl, (refl, (refl, (refl, (refl, (refl, (refl, (refl, (refl, (refl, (refl, (refl, (refl, (refl, (refl, (refl, (refl, (refl, (refl, (refl, (refl, (refl, (refl, (refl, (refl, (refl, (refl, (refl, (refl, (refl, (refl, (refl, (refl, (refl, (refl, (refl, (refl, (refl, (refl, (refl, (refl, (refl, (refl, (refl, (refl, (refl, (refl, (refl, (refl, (refl, (refl, (refl, (refl, (refl, (refl, (refl, (refl, (refl, (refl, (refl, (refl, (refl, (refl, (refl, (refl, (refl, (refl, (refl, (refl, (refl, (refl, (refl, (refl, (refl, (refl, (refl, (refl, (refl, (refl, (refl, (refl, (refl, (refl, (refl, (refl, (refl, (refl, (refl, (refl, (refl, (refl, (refl, (refl, (refl, (refl, (refl, (refl, (refl, (refl, (refl, (refl, tt)))))))))))))))))))))))))))))))))))))))))))))))))))))))))))))))))))))))))))))))))))))))))))))))))))))))))))))))

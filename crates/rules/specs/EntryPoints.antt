@@ -78,7 +78,7 @@ shortForRefining lent finished =
     || (fewer (lent .working) finished
     || (ltb (lent .words) (8 * finished .vertices) || ltb (lent .longs) (3 * finished .vertices)))
 
--- "Refining checks 1 to 11 in that order, each over the whole mesh, before a round". No check follows a round.
+-- "Refining checks 1 to 11 in that order, each over the whole mesh, before a round"; after a round it makes no check.
 unfoldable pub refiningRefusal : Mesh → ℕ → Lent → ℕ
 refiningRefusal m rounds lent =
     let t = topology m in
@@ -102,8 +102,8 @@ unfoldable pub refiningOutput : Mesh → ℕ → Mesh → Mesh → List ℕ → 
 refiningOutput m rounds output working words longs =
     resultTables (refiningRefusal m rounds (lentBy output working words longs)) output (refined rounds m)
 
--- Whether every coordinate is in range: of the first mesh, and of the mesh after each of the rounds, in this order. Refining promises that all are
--- true, where document 01 had it look after each round and refuse with 12.
+-- Whether every coordinate is in range: in the first mesh, and in the mesh after each of the rounds, one truth value each. Refining promises, of
+-- every call that it does not refuse, that all of them are true (request 9 of document 02).
 unfoldable pub rangeKept : ℕ → Mesh → List Bool
 rangeKept rounds m = map (λ (k : ℕ). not (coordinateOutOfRange (refined k m))) (upFrom 0 (suc rounds))
 

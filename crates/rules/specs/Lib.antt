@@ -1,4 +1,4 @@
--- Document 01 as definitions that compute. Each is stated once, with document 01's words beside it.
+-- Document 01 and the requests of document 02 that have landed, as definitions that compute. Each is stated once, with its words beside it.
 -- Lists: the few functions on lists that the rules are written with; sets of corners.
 pub mod Lists
 -- Mesh: the five tables, the kinds of cells, the parts of a cell.
@@ -13,7 +13,7 @@ pub mod Averaging
 pub mod Accuracy
 -- Counts: the counts of a round, the finished counts, the ranges.
 pub mod Counts
--- Refusals: the conditions 1 to 12.
+-- Refusals: the conditions 1 to 11.
 pub mod Refusals
 -- EntryPoints: refining, the irregular count, the millimetre report: refusal, answer, lent memory.
 pub mod EntryPoints

@@ -85,7 +85,7 @@ tooLarge rounds t = outOfRange (finishedCounts rounds t)
 
 -- ---- 11, document 01: short buffer. "any lent output or working buffer is too short". Each entry point says which buffers it is lent.
 
--- ---- 12, document 01: strayed. Retired: no entry point gives it, and no later refusal takes its number. `rangeKept` of refining stands in its place.
+-- ---- 12, document 01: strayed. Retired: no entry point gives it, and the number is never used again. Refining promises `rangeKept` instead.
 
 -- ---- checks that several entry points make
 

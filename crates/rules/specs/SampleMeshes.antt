@@ -62,6 +62,16 @@ hub =
     (0 ∷ 1 ∷ 2 ∷ 3 ∷ 7 ∷ 8 ∷ 9 ∷ 10 ∷ 0 ∷ 3 ∷ 4 ∷ 5 ∷ 7 ∷ 10 ∷ 11 ∷ 12 ∷ 0 ∷ 5 ∷ 6 ∷ 1 ∷ 7 ∷ 12 ∷ 13 ∷ 8 ∷ [])
     [] [] []
 
+-- a hex, a quad on its top, two segments and a point
+unfoldable pub mixed : Mesh
+mixed =
+    mesh (square ++ (square8 ++ (pos 20 ∷ pos 3 ∷ negsuc 6 ∷ pos 21 ∷ negsuc 4 ∷ pos 4 ∷ [])))
+    (upFrom 0 8) (4 ∷ 5 ∷ 6 ∷ 7 ∷ []) (6 ∷ 8 ∷ 8 ∷ 9 ∷ []) (9 ∷ [])
+
+-- P1's stored form: 36 bytes, with the bytes 0 and 35 given
+unfoldable pub barBytes : ℕ → ℕ → List ℕ
+barBytes first last = first ∷ 128 ∷ 0 ∷ 16 ∷ [] ++ (replicate 6 0 ++ (32 ∷ [] ++ (replicate 16 0 ++ (64 ∷ [] ++ (replicate 7 0 ++ (last ∷ []))))))
+
 -- ---- at the ends of the range of coordinates
 
 -- a segment from the least to the greatest coordinate, with some points
@@ -75,13 +85,3 @@ lowHub = mesh (replicate 42 (negsuc 536_870_911)) (hub .hexes) [] [] []
 -- the cube with its six faces as quads, from the least to the greatest coordinate on each axis
 unfoldable pub wideCube : Mesh
 wideCube = mesh (map (λ (z : ℤ). cond (ltZ (pos 0) z) (pos 536_870_911) (negsuc 536_870_911)) (cube [] .vertices)) (upFrom 0 8) sides [] []
-
--- a hex, a quad on its top, two segments and a point
-unfoldable pub mixed : Mesh
-mixed =
-    mesh (square ++ (square8 ++ (pos 20 ∷ pos 3 ∷ negsuc 6 ∷ pos 21 ∷ negsuc 4 ∷ pos 4 ∷ [])))
-    (upFrom 0 8) (4 ∷ 5 ∷ 6 ∷ 7 ∷ []) (6 ∷ 8 ∷ 8 ∷ 9 ∷ []) (9 ∷ [])
-
--- P1's stored form: 36 bytes, with the bytes 0 and 35 given
-unfoldable pub barBytes : ℕ → ℕ → List ℕ
-barBytes first last = first ∷ 128 ∷ 0 ∷ 16 ∷ [] ++ (replicate 6 0 ++ (32 ∷ [] ++ (replicate 16 0 ++ (64 ∷ [] ++ (replicate 7 0 ++ (last ∷ []))))))

@@ -1,7 +1,7 @@
 //! The refusals by their numbers (document 01, "Refused meshes and files").
 
-/// Document 01's words stand beside the field's terms. 12, strayed, is retired: no round leaves the range, and no later
-/// refusal takes the number.
+/// Document 01's words stand beside the field's terms. 12, strayed, is retired: no round leaves the range, and the
+/// number is never used again.
 #[repr(u32)]
 #[derive(Clone, Copy, Debug, PartialEq, Eq, PartialOrd, Ord, Hash)]
 pub enum Refusal {

@@ -27,6 +27,10 @@ passed c = c .before .before .before .before .before .before .before .before .be
 abbrev decided : tie.Else1 → tie.After-decide
 decided i = i .before .before .before .before .before
 
+-- from a refusal back to the decision
+abbrev declined : tie.After-refused → tie.After-decide
+declined c = c .before .before .before .before .before .before
+
 -- from the answer back to the rounds
 abbrev refined : tie.After-slice-known21 → tie.After-accepted
 refined c = c .before .before .before .before .before .before .before .before .before .before .before .before .before .before .before .before .before .before .before .before .before .before
@@ -48,7 +52,7 @@ lent d =
 
 returns : tie.Need-returns
 returns c =
-    let d = c .before .before .before .before .before .before in
+    let d = declined c in
     let s = start d in
     plan-refused (given s) (s .args .rounds) (out s) (work s) (now (s .args .words)) (now (s .args .longs)) _ _ (d .decide .ensures) (lent d) (c .before .if1 .taken) (c .refused .result) (c .refused .ensures)
 
