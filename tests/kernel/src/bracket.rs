@@ -1,4 +1,4 @@
-//! A bracket-like casting: a foot with a bolt hole and an upright wall, in blocks of 10 mm.
+//! The blocks of a bracket-like casting: a foot with a bolt hole and an upright wall, in cubes of 10 mm.
 
 use crate::mesh::Mesh;
 use std::collections::BTreeMap;
@@ -7,7 +7,9 @@ use std::collections::BTreeMap;
 const LONG: i32 = 5;
 const DEEP: i32 = 3;
 const TALL: i32 = 3;
-const UNITS: i32 = 10 * 1024;
+
+/// The side of a block in units.
+pub const SIDE: i32 = 10 * 1024;
 
 type Node = [i32; 3];
 
@@ -17,14 +19,10 @@ fn is_solid(x: i32, y: i32, z: i32) -> bool {
     (z == 0 && !hole) || y == DEEP - 1
 }
 
-/// The four nodes round a square of the lattice that is spanned by two axes.
-fn square(start: Node, first: usize, second: usize) -> [Node; 4] {
-    let step = |node: Node, axis: usize| {
-        let mut next = node;
-        next[axis] += 1;
-        next
-    };
-    [start, step(start, first), step(step(start, first), second), step(start, second)]
+/// The four nodes round the square above a node on the first two axes. They are spelled out: rustc 1.95 gets a closure
+/// wrong that changes its array argument and is called twice with the same one (see README.md, "A trap").
+fn square([x, y, z]: Node) -> [Node; 4] {
+    [[x, y, z], [x + 1, y, z], [x + 1, y + 1, z], [x, y + 1, z]]
 }
 
 /// Numbers the nodes in the order first met.
@@ -37,66 +35,26 @@ struct Builder {
 impl Builder {
     fn number(&mut self, node: Node) -> u32 {
         let mesh = &mut self.mesh;
-        *self.numbers.entry(node).or_insert_with(|| mesh.add_vertex(node.map(|step| step * UNITS)))
+        *self.numbers.entry(node).or_insert_with(|| mesh.add_vertex(node.map(|step| step * SIDE)))
     }
 
-    fn numbers<const N: usize>(&mut self, nodes: [Node; N]) -> [u32; N] {
-        nodes.map(|node| self.number(node))
-    }
-
-    fn add_blocks(&mut self) {
-        for z in 0..TALL {
-            for y in 0..DEEP {
-                for x in 0..LONG {
-                    if is_solid(x, y, z) {
-                        let bottom = self.numbers(square([x, y, z], 0, 1));
-                        let top = self.numbers(square([x, y, z + 1], 0, 1));
-                        self.mesh.hexes.extend([bottom, top].concat());
-                    }
-                }
-            }
+    fn add_block(&mut self, [x, y, z]: Node) {
+        for layer in [square([x, y, z]), square([x, y, z + 1])] {
+            let corners = layer.map(|node| self.number(node));
+            self.mesh.hexes.extend(corners);
         }
-    }
-
-    /// Machined: the underside of the foot and the back of the wall.
-    fn add_machined_faces(&mut self) {
-        for x in 0..LONG {
-            for y in (0..DEEP).filter(|&y| is_solid(x, y, 0)) {
-                let quad = self.numbers(square([x, y, 0], 0, 1));
-                self.mesh.quads.extend(quad);
-            }
-            for z in 0..TALL {
-                let quad = self.numbers(square([x, DEEP, z], 0, 2));
-                self.mesh.quads.extend(quad);
-            }
-        }
-    }
-
-    /// The parting line runs along the upper rim of the foot's front and sides.
-    fn add_parting_line(&mut self) {
-        let left = (0..=DEEP).rev().map(|y| [0, y, 1]);
-        let front = (1..=LONG).map(|x| [x, 0, 1]);
-        let right = (1..=DEEP).map(|y| [LONG, y, 1]);
-        let line: Vec<Node> = left.chain(front).chain(right).collect();
-        for ends in line.windows(2) {
-            let segment = self.numbers([ends[0], ends[1]]);
-            self.mesh.segments.extend(segment);
-        }
-    }
-
-    /// Three datum points on the underside and one on the back.
-    fn add_datum_points(&mut self) {
-        let points = self.numbers([[0, 0, 0], [LONG, 0, 0], [2, DEEP, 0], [3, DEEP, TALL]]);
-        self.mesh.points.extend(points);
     }
 }
 
-/// Fits the tables of the listing program after one round.
-pub fn bracket() -> Mesh {
+/// The blocks alone, without creases.
+pub fn blocks() -> Mesh {
     let mut builder = Builder::default();
-    builder.add_blocks();
-    builder.add_machined_faces();
-    builder.add_parting_line();
-    builder.add_datum_points();
+    for z in 0..TALL {
+        for y in 0..DEEP {
+            for x in (0..LONG).filter(|&x| is_solid(x, y, z)) {
+                builder.add_block([x, y, z]);
+            }
+        }
+    }
     builder.mesh
 }

@@ -1,6 +1,6 @@
 //! The stored sample meshes and the page that describes them.
 
-use crate::bracket::bracket;
+use crate::castings;
 use crate::mesh::Mesh;
 use crate::samples::*;
 use crate::stored::encode;
@@ -48,15 +48,33 @@ fn further_samples() -> Vec<Sample> {
         sample("p12", p12(), "P12: the 3 by 3 grid of 000, section 3.2, 1 mm apart: ranks 0 1 0 1 2 1 0 1 0"),
         sample("uneven-segments", uneven_segments(), "segments from 0 to 1 and 7; after 1 round vertex 0 is at 1"),
         sample("touching-segments", touching_segments(), "two segments 0 to 8 that share no vertex; 6 after 1 round"),
-        sample("hub", hub(5, 20_480.0, 10_240), "five blocks round one edge, 20 mm in radius and 10 mm high"),
+        sample(
+            "hub",
+            castings::hub(),
+            "a casting: five blocks round one edge, 20 mm in radius and 10 mm high; its whole shell and its sharp edges",
+        ),
         sample(
             "bracket",
-            bracket(),
-            "a casting in blocks of 10 mm: a foot with a bolt hole and an upright wall; \
-             machined faces as quads, the parting line as segments, datum points",
+            castings::bracket(),
+            "a casting in cubes of 10 mm, 24.0 cm3: a foot with a bolt hole and an upright wall; \
+             its whole shell, sharp edges and corners",
         ),
     ]
 }
+
+/// What the page says of the castings, below its table.
+const ABOUT_CASTINGS: &str = "
+## The castings
+
+`bracket.mlca` and `hub.mlca` list their whole shell as quads, its sharp edges as segments and its corners as points: without
+that a solid shrinks in every round (docs/CREASES.md says by how much). `shell` in `tests/kernel` finds all three.
+The hub has no corners: its rim turns by 36 degrees at a time and is meant to be round.
+
+The short call `mlca_refine` and the listing program hold 1,000 vertices and 256 cells of each kind, before and after the
+rounds. The hub fits them for one round. The bracket's 72 quads become 288 in one round, so they refuse it (refusal 11); the
+viewer then goes on to `mlca_refine_tables`, which takes any size. The bracket keeps its size all the same: one that leaves
+out part of its shell to fit would teach the way that loses volume.
+";
 
 /// The page that stands beside the files.
 pub fn page() -> String {
@@ -73,5 +91,5 @@ pub fn page() -> String {
         let bytes = encode(&sample.mesh).len();
         text += &format!("| {}.mlca | {bytes} | {v} | {h} | {q} | {s} | {p} | {} |\n", sample.name, sample.about);
     }
-    text
+    text + ABOUT_CASTINGS
 }

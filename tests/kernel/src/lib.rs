@@ -6,6 +6,7 @@
 pub mod answers;
 pub mod average;
 pub mod bracket;
+pub mod castings;
 pub mod catalogue;
 pub mod cells;
 pub mod checks;
@@ -24,6 +25,9 @@ pub mod property;
 pub mod random;
 pub mod refusal;
 pub mod samples;
+pub mod shell;
+pub mod space;
 pub mod split;
 pub mod stored;
+pub mod volume;
 pub mod wrong;

@@ -1,6 +1,7 @@
 //! Refining through the tables: samples, random valid and damaged meshes, the third property.
 
 use super::Comparison;
+use crate::castings::{bracket, hub, hub_blocks};
 use crate::checks::{check_mesh, check_refining, finished_counts};
 use crate::entries::Lent;
 use crate::generate::{damage, lent, small_mesh, valid_mesh};
@@ -17,7 +18,7 @@ const MOST_FINISHED: usize = 4000;
 pub fn samples(comparison: &mut Comparison) {
     let touching = [uneven_segments(), touching_segments(), lone_point([7, -7, 1]), Mesh::default()];
     let ends = [span(), pinned_span(), low_hub(), wide_cube()];
-    let larger = [hub(5, 20_480.0, 10_240), crate::bracket::bracket()];
+    let larger = [hub_blocks(), hub(), bracket()];
     let paper = [p1(), p2(), p3(), p5(), p6(), p7(), p8(), p9(), p11(257), p12()];
     let mut random = Random::new(11);
     for mesh in paper.iter().chain(&touching).chain(&ends).chain(&larger) {

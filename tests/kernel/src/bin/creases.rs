@@ -1,0 +1,5 @@
+//! Prints the table of volumes of docs/CREASES.md.
+
+fn main() {
+    print!("{}", oracle::castings::volume_table());
+}
