@@ -1,5 +1,6 @@
 //! What the shipped castings claim, held against the bytes of their files.
 
+use oracle::average::{refined, stages};
 use oracle::bracket::SIDE;
 use oracle::cells::{corners_at, edges};
 use oracle::mesh::Mesh;
@@ -88,5 +89,24 @@ fn the_castings_list_their_whole_shell() {
     for name in ["bracket.mlca", "hub.mlca"] {
         let mesh = shipped(name);
         assert_eq!(with_creases(&mesh, Creases::ShellAndSharpEdges), mesh, "{name}");
+    }
+}
+
+/// Flat faces and straight edges lose nothing: the finished volume is the same to the last unit, after each round.
+#[test]
+fn the_bracket_keeps_its_volume() {
+    for mesh in stages(&shipped("bracket.mlca"), 2) {
+        assert_eq!(volume(&mesh), 24 * TWELFTHS_IN_CM3);
+    }
+}
+
+/// No hex turns inside out on the way, however creases are listed.
+#[test]
+fn no_refined_hex_is_inside_out() {
+    for name in ["bracket.mlca", "hub.mlca"] {
+        for creases in [Creases::None, Creases::Shell, Creases::ShellAndSharpEdges] {
+            let finished = refined(&with_creases(&shipped(name), creases), 2);
+            assert!(hex_volumes(&finished).iter().all(|&twelfths| twelfths > 0), "{name}, {creases:?}");
+        }
     }
 }
