@@ -1,6 +1,7 @@
-/* Refining in plain C, as a baseline for the proved kernel. A round is one pass over the cells: edges and faces
-   are numbered by a hash over their whole corner sets, children are written, and each child's total, straight
-   from the parent's corners by the weights 27, 9, 3, 1, is added to the fine vertices that it counts for. */
+/* Refining in plain C, as a baseline for the proved kernel. A round goes over the cells once: edges and faces are
+   numbered by a hash over their whole corner sets, children are written, and each child's total, straight from the
+   parent's corners by the weights 27, 9, 3, 1, is added to the fine vertices that it counts for. Then the sums are
+   divided. */
 #include "baseline.h"
 #include "keys.h"
 
@@ -244,7 +245,7 @@ static void run_rounds(const struct tables *mesh, uint32_t rounds, uint64_t edge
     }
 }
 
-struct sizes plain_finished_sizes(const struct tables *mesh, uint32_t rounds, uint64_t edges, uint64_t faces)
+static struct sizes sizes_after(const struct tables *mesh, uint32_t rounds, uint64_t edges, uint64_t faces)
 {
     struct sizes sizes = sizes_of(mesh);
     for (uint32_t round = 0; round < rounds; round++) {
@@ -264,20 +265,42 @@ static bool is_short(const struct lent *lent, const struct sizes *finished)
            lent->numbers32.len < 8 * finished->vertices || lent->numbers64_len < 3 * finished->vertices;
 }
 
-uint32_t plain_refine(const struct tables *mesh, uint32_t rounds, struct lent *lent, struct sizes *finished)
+/* What checks 1 to 10 lead to: the edges and faces that the rounds start from, and the sizes that they end with. */
+struct plan {
+    uint64_t edges, faces;
+    struct sizes finished;
+};
+
+/* Checks 1 to 10. No edge is counted for 0 rounds, since none is needed. */
+static uint32_t make_plan(const struct tables *mesh, uint32_t rounds, struct scratch scratch, struct plan *plan)
 {
-    uint64_t faces = 0, edges = 0;
-    uint32_t refusal = plain_check_mesh(mesh, lent->numbers32, &faces);
+    uint32_t refusal = plain_check_mesh(mesh, scratch, &plan->faces);
     if (refusal != 0 || rounds > 8)
         return refusal != 0 ? refusal : 9;
     if (rounds > 0)
-        edges = plain_count_edges(mesh, lent->numbers32);
-    *finished = plain_finished_sizes(mesh, rounds, edges, faces);
-    if (out_of_range(finished) || is_short(lent, finished))
-        return out_of_range(finished) ? 10 : 11;
+        plan->edges = plain_count_edges(mesh, scratch);
+    plan->finished = sizes_after(mesh, rounds, plan->edges, plan->faces);
+    return out_of_range(&plan->finished) ? 10 : 0;
+}
+
+uint32_t plain_count_finished(const struct tables *mesh, uint32_t rounds, struct scratch scratch, struct sizes *finished)
+{
+    struct plan plan = { 0 };
+    uint32_t refusal = make_plan(mesh, rounds, scratch, &plan);
+    *finished = plan.finished;
+    return refusal;
+}
+
+uint32_t plain_refine(const struct tables *mesh, uint32_t rounds, struct lent *lent, struct sizes *finished)
+{
+    struct plan plan = { 0 };
+    uint32_t refusal = make_plan(mesh, rounds, lent->numbers32, &plan);
+    *finished = plan.finished;
+    if (refusal != 0 || is_short(lent, finished))
+        return refusal != 0 ? refusal : 11;
     if (rounds == 0)
         copy_mesh(mesh, &lent->output);
     else
-        run_rounds(mesh, rounds, edges, faces, lent);
+        run_rounds(mesh, rounds, plan.edges, plan.faces, lent);
     return 0;
 }

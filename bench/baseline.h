@@ -60,7 +60,7 @@ static inline bool coordinate_out_of_range(int32_t coordinate)
     return coordinate < LEAST_COORDINATE || coordinate > GREATEST_COORDINATE;
 }
 
-/* The parts of a cell (document 01, "The mesh"); not every file uses all of them. */
+/* The parts of a cell (rules 1.7 to 1.9 of docs/SPECIFICATION.md); not every file uses all of them. */
 #define PART_TABLE static const uint8_t __attribute__((unused))
 
 PART_TABLE HEX_EDGES[12][2] = { { 0, 1 }, { 1, 2 }, { 2, 3 }, { 3, 0 }, { 4, 5 }, { 5, 6 },
@@ -78,8 +78,8 @@ uint32_t plain_check_mesh(const struct tables *mesh, struct scratch scratch, uin
 /* How many edges a sound mesh has. */
 uint64_t plain_count_edges(const struct tables *mesh, struct scratch scratch);
 
-/* The sizes after so many rounds, by the recurrence of document 01, "One round". */
-struct sizes plain_finished_sizes(const struct tables *mesh, uint32_t rounds, uint64_t edges, uint64_t faces);
+/* Checks 1 to 10: the refusal, or 0 and the sizes after so many rounds (rule 5.3). */
+uint32_t plain_count_finished(const struct tables *mesh, uint32_t rounds, struct scratch scratch, struct sizes *finished);
 
 /* The memory that refining is lent. */
 struct lent {
@@ -94,6 +94,8 @@ uint32_t plain_refine(const struct tables *mesh, uint32_t rounds, struct lent *l
 
 uint64_t plain_count_irregular(const struct tables *mesh, struct scratch scratch);
 
+/* The sizes in a stored mesh's header: 13 (under 13 bytes), 14, 2, or 0. */
+uint32_t plain_read_counts(const uint8_t *bytes, size_t len, struct sizes *sizes);
 uint32_t plain_read_stored(const uint8_t *bytes, size_t len, struct tables *room, struct sizes *sizes);
 uint32_t plain_write_stored(const struct tables *mesh, uint8_t *buffer, size_t len, uint64_t *written);
 

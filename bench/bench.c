@@ -25,6 +25,8 @@ static int disagreements;
 static __typeof__(&baseline_refine_tables) const refine_tables[2] = { baseline_refine_tables, KERNEL(refine_tables) };
 static __typeof__(&baseline_read_tables) const read_tables[2] = { baseline_read_tables, KERNEL(read_tables) };
 static __typeof__(&baseline_write_tables) const write_tables[2] = { baseline_write_tables, KERNEL(write_tables) };
+static __typeof__(&baseline_finished_counts) const count_finished[2] = { baseline_finished_counts,
+                                                                         KERNEL(finished_counts) };
 static __typeof__(&baseline_irregular_count_tables) const count_irregular[2] = { baseline_irregular_count_tables,
                                                                                   KERNEL(irregular_count_tables) };
 
@@ -45,7 +47,8 @@ static double least(double best, double time)
     return best == 0 || time < best ? time : best;
 }
 
-/* Nanoseconds for each finished hex; where there are no hexes, for each cell of the commonest kind. */
+/* Nanoseconds for each hex of the mesh of these sizes: the finished mesh where there is refining, else the mesh given.
+   Where it has no hexes, for each cell of its commonest kind. */
 static void print_row(const char *name, uint32_t rounds, const struct sizes *s, const double best[2])
 {
     uint64_t cells = s->cells[HEX];
@@ -75,17 +78,15 @@ static void note(bool agreed, const char *what, const char *name)
     }
 }
 
-/* The finished sizes, from the edges and faces that the baseline counts. */
+/* The finished sizes, as the baseline counts them. */
 static struct sizes finished_sizes(const struct tables *mesh, uint32_t rounds)
 {
-    uint64_t faces;
     size_t len = 8000000;
     struct scratch scratch = { malloc(len * sizeof(uint32_t)), len };
-    uint32_t refusal = plain_check_mesh(mesh, scratch, &faces);
-    uint64_t edges = plain_count_edges(mesh, scratch);
+    struct sizes finished;
+    note(plain_count_finished(mesh, rounds, scratch, &finished) == 0, "a mesh of the bench is refused", "");
     free(scratch.numbers);
-    note(refusal == 0, "a mesh of the bench is refused", "");
-    return plain_finished_sizes(mesh, rounds, edges, faces);
+    return finished;
 }
 
 static void bench_refining(const char *name, const struct tables *mesh, uint32_t rounds)
@@ -142,6 +143,31 @@ static void bench_stored(const char *name, const struct tables *mesh)
         free(bytes[k]);
         free_tables(&tables[k]);
     }
+}
+
+static bool same_counts(mlca_counts_answer a, mlca_counts_answer b)
+{
+    return memcmp(&a, &b, sizeof a) == 0;
+}
+
+/* Finished counts of one round with so many working numbers lent: the checks, and the edges and faces counted. */
+static void bench_planning(const char *name, const struct tables *mesh, size_t len)
+{
+    if (strstr(name, chosen) == NULL)
+        return;
+    struct sizes s = sizes_of(mesh);
+    uint32_t *numbers = malloc((len + 1) * sizeof *numbers);
+    mlca_counts_answer answers[2] = { { 0 } };
+    double best[2] = { 0, 0 };
+    for (int call = 0; call < calls; call++)
+        for (int k = 0; k < KERNELS; k++) {
+            double start = now();
+            answers[k] = count_finished[k](SLICES(*mesh), 1, numbers, len);
+            best[k] = least(best[k], now() - start);
+        }
+    note(answers[0].refusal == 0 && (KERNELS == 1 || same_counts(answers[0], answers[1])), "finished counts", name);
+    print_row(name, 1, &s, best);
+    free(numbers);
 }
 
 /* Irregular counts with so many working numbers lent. */
@@ -202,6 +228,19 @@ static void bench_odd_shapes(void)
     refine_once("31,250 hexes on a face, relabelled", blocks_on_a_face(31250), 1, true);
 }
 
+/* Enough is what include/mlca.h gives for near-linear time: under 1,650,000 numbers for the middle mesh. */
+static void bench_counts(const struct tables *large, const struct tables *middle)
+{
+    bench_counting("irregular count: enough lent", large, 12000000);
+    bench_counting("irregular count: enough lent", middle, 1500000);
+    bench_counting("irregular count: a tenth lent", middle, 150000);
+    bench_counting("irregular count: a hundredth lent", middle, 15000);
+    bench_counting("irregular count: nothing lent", middle, 0);
+    bench_planning("finished counts: enough lent", middle, 1650000);
+    bench_planning("finished counts: a tenth lent", middle, 165000);
+    bench_planning("finished counts: nothing lent", middle, 0);
+}
+
 int main(int count, char **words)
 {
     struct tables large = grid(62, 63, 63, true), middle = grid(30, 32, 32, true), small = grid(6, 8, 10, true);
@@ -215,11 +254,7 @@ int main(int count, char **words)
     bench_odd_shapes();
     bench_stored("246,078 hexes with shell", &large);
     bench_stored("480 hexes with shell", &small);
-    bench_counting("irregular count: enough lent", &large, 12000000);
-    bench_counting("irregular count: enough lent", &middle, 1500000);
-    bench_counting("irregular count: a tenth lent", &middle, 150000);
-    bench_counting("irregular count: a hundredth lent", &middle, 15000);
-    bench_counting("irregular count: nothing lent", &middle, 0);
+    bench_counts(&large, &middle);
     free_tables(&large);
     free_tables(&middle);
     free_tables(&small);

@@ -1,4 +1,4 @@
-/* Checks 1 to 8 (document 01, "Refused meshes and files") and the counts of edges and faces.
+/* Checks 1 to 8 (rules 7.1 to 7.8 of docs/SPECIFICATION.md) and the counts of edges and faces.
    Keys are looked at in parts: as many parts as it takes for one part's keys to fit the numbers at hand. */
 #include "baseline.h"
 #include "keys.h"

@@ -10,6 +10,9 @@ __typeof__(mlca_millimetres) baseline_millimetres;
 __typeof__(mlca_refine_tables) baseline_refine_tables;
 __typeof__(mlca_read_tables) baseline_read_tables;
 __typeof__(mlca_write_tables) baseline_write_tables;
+__typeof__(mlca_finished_counts) baseline_finished_counts;
+__typeof__(mlca_stored_counts) baseline_stored_counts;
+__typeof__(mlca_version) baseline_version;
 __typeof__(mlca_irregular_count_tables) baseline_irregular_count_tables;
 
 #endif

@@ -58,18 +58,39 @@ mlca_counts_answer NAME(refine_tables)(TABLES(const, mesh), uint32_t rounds, TAB
     return counts_answer(refusal, &finished);
 }
 
-mlca_counts_answer NAME(read_tables)(const uint8_t *bytes, size_t bytes_len, TABLES(, output))
+mlca_counts_answer NAME(finished_counts)(TABLES(const, mesh), uint32_t rounds, uint32_t *numbers, size_t numbers_len)
+{
+    const struct tables mesh = TABLES_OF(mesh);
+    struct scratch scratch = { numbers, numbers_len };
+    struct sizes finished = { 0 };
+    uint32_t refusal = plain_count_finished(&mesh, rounds, scratch, &finished);
+    memset(numbers, 0, numbers_len * sizeof *numbers);
+    return counts_answer(refusal, &finished);
+}
+
+mlca_counts_answer NAME(stored_counts)(const uint8_t *stored, size_t stored_len)
+{
+    struct sizes sizes = { 0 };
+    return counts_answer(plain_read_counts(stored, stored_len, &sizes), &sizes);
+}
+
+uint32_t NAME(version)(void)
+{
+    return MLCA_VERSION;
+}
+
+mlca_counts_answer NAME(read_tables)(const uint8_t *stored, size_t stored_len, TABLES(, output))
 {
     struct tables room = TABLES_OF(output);
     struct sizes sizes = { 0 };
-    return counts_answer(plain_read_stored(bytes, bytes_len, &room, &sizes), &sizes);
+    return counts_answer(plain_read_stored(stored, stored_len, &room, &sizes), &sizes);
 }
 
-mlca_count_answer NAME(write_tables)(TABLES(const, mesh), uint8_t *buffer, size_t buffer_len)
+mlca_count_answer NAME(write_tables)(TABLES(const, mesh), uint8_t *result, size_t result_len)
 {
     const struct tables mesh = TABLES_OF(mesh);
     mlca_count_answer answer = { 0, 0 };
-    answer.refusal = plain_write_stored(&mesh, buffer, buffer_len, &answer.count);
+    answer.refusal = plain_write_stored(&mesh, result, result_len, &answer.count);
     return answer;
 }
 

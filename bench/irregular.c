@@ -1,4 +1,4 @@
-/* The irregular count (document 01, "Other entry points") in plain C. */
+/* The irregular count (rule 9.11 of docs/SPECIFICATION.md) in plain C. */
 #include "baseline.h"
 
 #include <string.h>

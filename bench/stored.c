@@ -1,4 +1,4 @@
-/* The stored form (document 01, "Stored form") in plain C: fields through a 64-bit window. */
+/* The stored form (section 8 of docs/SPECIFICATION.md) in plain C: fields through a 64-bit window. */
 #include "baseline.h"
 
 #include <string.h>
@@ -52,7 +52,8 @@ static inline uint32_t take(struct reader *r, uint32_t width)
     return (uint32_t)(r->window >> r->filled) & ((1u << width) - 1);
 }
 
-static uint32_t read_header(const uint8_t *bytes, size_t len, struct sizes *sizes, uint32_t *width)
+/* The header's seven fields: 13 (under 13 bytes), 14, 2, or 0. The width is not judged. */
+static uint32_t read_fields(const uint8_t *bytes, size_t len, struct sizes *sizes, uint32_t *width)
 {
     if (len < HEADER_BYTES)
         return 13;
@@ -63,8 +64,20 @@ static uint32_t read_header(const uint8_t *bytes, size_t len, struct sizes *size
     sizes->vertices = take(&r, 20);
     for (int d = HEX; d >= POINT; d--)
         sizes->cells[d] = take(&r, 18);
-    if (out_of_range(sizes))
-        return 2;
+    return out_of_range(sizes) ? 2 : 0;
+}
+
+uint32_t plain_read_counts(const uint8_t *bytes, size_t len, struct sizes *sizes)
+{
+    uint32_t width;
+    return read_fields(bytes, len, sizes, &width);
+}
+
+static uint32_t read_header(const uint8_t *bytes, size_t len, struct sizes *sizes, uint32_t *width)
+{
+    uint32_t refusal = read_fields(bytes, len, sizes, width);
+    if (refusal != 0)
+        return refusal;
     if (*width != width_of(sizes->vertices))
         return 15;
     uint64_t bits = bits_of(sizes, *width);

@@ -1,6 +1,7 @@
-/* Runs document 01's samples through the archive's table entry points. One row a sample: the call, and what it must show.
-   Prints a line for each with what came out; the last line is 'N passed, M failed'. What the archive does not show of
-   a sample (P4's exact values, P6's remainder, P12's ranks) is proved of the rules and tried in tests/kernel. */
+/* Runs the samples of docs/SPECIFICATION.md, section 11, through the archive. One row a sample: the call, and what it
+   must show. Prints a line for each with what came out; the last line is 'N passed, M failed'. What the archive does
+   not show of a sample (P4's exact values, P6's remainder, P12's ranks) is proved of the rules, and tried in
+   tests/kernel. */
 #include "../include/mlca.h"
 
 #include <stdarg.h>
@@ -76,7 +77,7 @@ static const struct mesh far = { .vertices = COORDINATES(-3, 5, 536870912), .poi
 static const struct mesh corner_8 = { .vertices = COORDINATES(CUBE), .hexes = VERTICES(0, 1, 2, 3, 4, 5, 6, 8) };
 static const struct mesh empty = { .points = NONE };
 
-static show axis, positions, size, acceptance, irregular, width, millimetres;
+static show axis, positions, size, acceptance, irregular, width, millimetres, planned, header, version;
 
 static const struct row rows[] = {
     { "P1: segment 0 to 8", axis, &p1, 1, NONE, "2, 6, 4" },
@@ -117,6 +118,22 @@ static const struct row rows[] = {
     { "empty vertex tables, refining", acceptance, &empty, 1, NONE, "refused 2" },
     { "empty vertex tables, irregular count", irregular, &empty, 0, NONE, "refused 2" },
     { "empty vertex tables, writing", width, &empty, 0, NONE, "refused 2" },
+    { "finished counts of P8", planned, &p8, 1, NONE, "27 vertices, 8 hexes, 0 quads, 0 segments, 0 points" },
+    { "finished counts of P9", planned, &p9, 1, NONE, "27 vertices, 8 hexes, 24 quads, 0 segments, 0 points" },
+    { "finished counts of P10", planned, &p8, 2, NONE, "125 vertices, 64 hexes, 0 quads, 0 segments, 0 points" },
+    { "finished counts, 8 rounds of P5", planned, &p5, 8, NONE,
+      "257 vertices, 0 hexes, 0 quads, 256 segments, 2 points" },
+    { "finished counts, 5 rounds of P8", planned, &p8, 5, NONE,
+      "35937 vertices, 32768 hexes, 0 quads, 0 segments, 0 points" },
+    { "finished counts, 6 rounds of P8", planned, &p8, 6, NONE, "refused 10" },
+    { "finished counts, 9 rounds", planned, &p1, 9, NONE, "refused 9" },
+    { "finished counts, corner 8 of 8 vertices", planned, &corner_8, 9, NONE, "refused 4" },
+    { "finished counts, empty vertex tables", planned, &empty, 9, NONE, "refused 2" },
+    { "counts in the header of P9", header, &p9, 0, NONE, "8 vertices, 1 hexes, 6 quads, 0 segments, 0 points" },
+    { "counts in the header of P5", header, &p5, 0, NONE, "2 vertices, 0 hexes, 0 quads, 1 segments, 2 points" },
+    { "counts in the header of 257 vertices", header, &of_257, 0, NONE,
+      "257 vertices, 0 hexes, 0 quads, 0 segments, 0 points" },
+    { "the version", version, NULL, 0, NONE, "10100" },
 };
 
 /* What the last call showed. */
@@ -211,6 +228,43 @@ static void width(const struct row *row)
     mlca_counts_answer read = mlca_read_tables(stored, (size_t)written.count, vertices, 3 * V, NULL, 0, NULL, 0, NULL, 0, NULL, 0);
     if (read.refusal != 0 || 3 * read.counts.vertices != row->mesh->vertices.len)
         say(", not read back");
+}
+
+static void say_counts(mlca_counts_answer answer)
+{
+    const mlca_counts *c = &answer.counts;
+    if (answer.refusal != 0)
+        say("refused %u", (unsigned)answer.refusal);
+    else
+        say("%u vertices, %u hexes, %u quads, %u segments, %u points", (unsigned)c->vertices, (unsigned)c->hexes,
+            (unsigned)c->quads, (unsigned)c->segments, (unsigned)c->points);
+}
+
+/* The working numbers have to be zero at the end. */
+static void planned(const struct row *row)
+{
+    uint32_t numbers[64];
+    memset(numbers, 7, sizeof numbers);
+    say_counts(mlca_finished_counts(TABLES(row->mesh), row->rounds, numbers, 64));
+    for (size_t k = 0; k < 64; k++)
+        if (numbers[k] != 0)
+            say(", number %zu is not zero", k);
+}
+
+/* From the first 13 bytes of the stored form; 12 have to be too few. */
+static void header(const struct row *row)
+{
+    static uint8_t stored[MLCA_STORED_BYTES];
+    mlca_write_tables(TABLES(row->mesh), stored, sizeof stored);
+    say_counts(mlca_stored_counts(stored, 13));
+    if (mlca_stored_counts(stored, 12).refusal != MLCA_WRONG_FILE_LENGTH)
+        say(", and 12 bytes are enough");
+}
+
+static void version(const struct row *row)
+{
+    (void)row;
+    say("%u", (unsigned)mlca_version());
 }
 
 static void millimetres(const struct row *row)

@@ -6,13 +6,13 @@ use borrow.Author.Tests.{eqb-true, not-false}
 use lib.ListN.{length, replicate}
 use Rattle.rules.specs.Mesh.{Mesh, topology}
 use Rattle.rules.specs.Averaging.{refined}
+use Rattle.rules.specs.Accuracy.{Property3}
 use Rattle.rules.specs.Refusals.{partialEntry, coordinateOutOfRange, tooLarge}
 use Rattle.rules.specs.EntryPoints.{rangeKept}
 use Rattle.lists.proofs.Membership.{run-same}
 use Rattle.lists.proofs.Tests.{or-neither}
 use Rattle.soundness.specs.Accepted.{Accepted}
 use Rattle.soundness.proofs.Rounds.{refined-accepted}
-use Rattle.accuracy.specs.Property3.{Property3}
 use Rattle.accuracy.proofs.Property3.{property-3}
 use Rattle.accuracy.proofs.Range.{all-in-range, refined-range}
 

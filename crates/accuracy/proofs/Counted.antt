@@ -1,5 +1,7 @@
 -- The cells counted for a vertex are the cells of one kind that hold it, and of a sound mesh there is one.
 use mathlib.Core.Path.{_≡_, refl, sym, subst}
+use mathlib.Core.Bool.{true}
+use mathlib.Core.Logic.{_↔_}
 use mathlib.Core.List.{List, [], _∷_}
 use Prim.Native.Nat.{ℕ, _≤_, _<_}
 use native.Mathlib.Omega.{arith}
@@ -36,11 +38,16 @@ ranked t v =
     (or-else P (dimension quad) (holding v (t .quads)) _ (quad, refl, refl) (hex, refl, refl))) in
     record { kind = p .0; rank = p .1; cells = p .2 }
 
--- a counted cell is a cell of that kind
-pub counted-in : (t : Topology) (v : ℕ) (c : List ℕ) → In c (counted t v .cells) → In c (cellsOf t (ranked t v .kind))
+-- the counted cells are the cells of that kind that hold the vertex
+pub counted-in :
+    (t : Topology) (v : ℕ) (c : List ℕ) → In c (counted t v .cells) ↔ (In c (cellsOf t (ranked t v .kind)) × (has v c ≡ true))
 unfolding holding
-counted-in t v c i =
-    let r = ranked t v in in-keep (has v) (cellsOf t (r .kind)) c (subst (λ (cs : List (List ℕ)). In c cs) (r .cells) i) .0
+counted-in t v c =
+    let r = ranked t v in
+    let cells = cellsOf t (r .kind) in (
+      λ i. in-keep (has v) cells c (subst (λ (cs : List (List ℕ)). In c cs) (r .cells) i),
+      λ h. subst (λ (cs : List (List ℕ)). In c cs) (sym (r .cells)) (keep-in (has v) cells c (h .0) (h .1)),
+    )
 
 -- ---- bounds: a rank is a dimension, and a valence is at most the count of a table
 

@@ -9,11 +9,11 @@ pub mod Counted
 pub mod Means
 -- Drawn: what a fine vertex draws on.
 pub mod Drawn
+-- Feeding: whether a remainder feeds a vertex.
+pub mod Feeding
 -- Property3: the third property.
 pub mod Property3
 -- Range: coordinates in range stay in range.
 pub mod Range
 -- Accepted: the rounds of a mesh that passes the checks.
 pub mod Accepted
--- Instances: the third property at sample meshes.
-pub mod Instances

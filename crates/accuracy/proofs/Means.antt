@@ -128,9 +128,9 @@ module _ (t : Topology) (s : Sound t) where
       let draws = cellDraws (parts t) in
       let w = 8 * 2 ^ c .rank in
       let of : (cell : List ℕ) → In cell (c .cells) → (g : ℕ) → In g cell → GoodPart n (getD (parts t) g []) =
-      λ cell i. corner-part κ cell (counted-in (split t) f cell i) in
+      λ cell i. corner-part κ cell (counted-in (split t) f cell .0 i .0) in
       let size : (cell : List ℕ) → In cell (c .cells) → 8 * length cell ≡ w =
-      λ cell i. ap (λ (m : ℕ). 8 * m) (fine .sized κ cell (counted-in (split t) f cell i) ∙ power-corners κ ∙ ap (λ (d : ℕ). 2 ^ d) (sym (ranked (split t) f .rank))) in
+      λ cell i. ap (λ (m : ℕ). 8 * m) (fine .sized κ cell (counted-in (split t) f cell .0 i .0) ∙ power-corners κ ∙ ap (λ (d : ℕ). 2 ^ d) (sym (ranked (split t) f .rank))) in
       record {
         each = each-concatMap (GoodDraw n) draws (c .cells) .1
             (each-in (λ (cell : List ℕ). Each (GoodDraw n) (draws cell)) (c .cells) .1 (λ cell i. cell-good n (parts t) cell (of cell i)));

@@ -55,5 +55,5 @@ module _ (m : Mesh) (s : Sound (topology m)) (whole : length (m .vertices) % 3 â
       let h : a < 3 = mod-lt p (omega arith) in
       let place : 3 * v + a â‰¡ p = div-add-mod p 3 in
       let there : 3 * v + a < length ws = rw place l in
-      let w = written-between (length xs) lo hi (roundsOf k m) xs (rounds-good k m a s) (first a h) v (written-below k m whole a v h there) in
+      let w = written-between (length xs) lo hi (roundsOf k (topology m)) xs (rounds-good k m a s) (first a h) v (written-below k m whole a v h there) in
       rw place at (range-order (getD ws (3 * v + a) (pos 0)) .1 (subst (Between lo hi) (written-at k m whole a v h there) w))

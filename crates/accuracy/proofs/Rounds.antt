@@ -1,5 +1,5 @@
--- The coordinates of a mesh after some rounds, axis by axis.
-use mathlib.Core.Path.{_≡_, refl, sym, ap, _∙_}
+-- The topology and the coordinates of a mesh after some rounds, axis by axis.
+use mathlib.Core.Path.{_≡_, refl, sym, ap, _∙_, subst}
 use mathlib.Core.List.{List, map}
 use Prim.Native.Nat.{ℕ, zero, suc, _+_, _*_, _/_, _%_, _<_}
 use native.Mathlib.Omega.{arith}
@@ -8,9 +8,11 @@ use lib.IntN.{ℤ, pos}
 use Rattle.rules.specs.Mesh.{Mesh, Topology, topology, meshOf}
 use Rattle.rules.specs.Split.{splitBy, split}
 use Rattle.rules.specs.Means.{coordinate, rounded}
-use Rattle.rules.specs.Averaging.{means, axis, round, refined, roundsOf}
-use Rattle.rules.specs.Accuracy.{written}
+use Rattle.rules.specs.Averaging.{means, axis, round, refined, splitTimes, roundsOf}
 use Rattle.rounding.specs.Good.{count}
+use Rattle.rounding.specs.Written.{written}
+use Rattle.soundness.specs.Sound.{Sound}
+use Rattle.soundness.proofs.SplitSound.{split-sound}
 use Rattle.soundness.proofs.Rounds.{length-averaged, length-means, round-topology}
 use Rattle.accuracy.proofs.Axes.{length-axis, axis-at, axis-averaged}
 
@@ -19,26 +21,37 @@ pub vertex-means : (t : Topology) → length (means t) ≡ split t .vertexCount
 unfolding split splitBy
 vertex-means t = length-means t
 
-pub length-rounds : (k : ℕ) (m : Mesh) → length (roundsOf k m) ≡ k
+pub length-rounds : (k : ℕ) (t : Topology) → length (roundsOf k t) ≡ k
 unfolding roundsOf
-length-rounds zero m = refl
-length-rounds (suc k) m = ap suc (length-rounds k m)
+length-rounds zero t = refl
+length-rounds (suc k) t = ap suc (length-rounds k t)
+
+-- no coordinate decides the topology
+pub refined-topology : (k : ℕ) (m : Mesh) → topology (refined k m) ≡ splitTimes k (topology m)
+unfolding refined splitTimes
+refined-topology zero m = refl
+refined-topology (suc k) m = round-topology (refined k m) ∙ ap split (refined-topology k m)
+
+pub times-sound : (k : ℕ) (t : Topology) → Sound t → Sound (splitTimes k t)
+unfolding splitTimes
+times-sound zero t s = s
+times-sound (suc k) t s = split-sound (splitTimes k t) (times-sound k t s)
 
 -- how many vertices there are after k rounds
-pub count-rounds : (k : ℕ) (m : Mesh) (a : ℕ) → count (length (axis a (m .vertices))) (roundsOf k m) ≡ topology (refined k m) .vertexCount
-unfolding roundsOf refined topology
+pub count-rounds : (k : ℕ) (m : Mesh) (a : ℕ) → count (length (axis a (m .vertices))) (roundsOf k (topology m)) ≡ splitTimes k (topology m) .vertexCount
+unfolding roundsOf splitTimes topology
 count-rounds zero m a = length-axis a (m .vertices)
-count-rounds (suc k) m a =
-    let n = refined k m in vertex-means (topology n) ∙ ap (λ (t : Topology). t .vertexCount) (sym (round-topology n))
+count-rounds (suc k) m a = vertex-means (splitTimes k (topology m))
 
 -- each axis is what the rounds of means leave of it
-pub refined-written : (k : ℕ) (m : Mesh) (a : ℕ) → a < 3 → axis a (refined k m .vertices) ≡ written (roundsOf k m) (axis a (m .vertices))
+pub refined-written : (k : ℕ) (m : Mesh) (a : ℕ) → a < 3 → axis a (refined k m .vertices) ≡ written (roundsOf k (topology m)) (axis a (m .vertices))
 unfolding refined roundsOf written round meshOf
 refined-written zero m a h = refl
 refined-written (suc k) m a h =
     let n = refined k m in
-    let r = means (topology n) in
-    axis-averaged a r (n .vertices) h ∙ ap (λ (xs : List ℤ). map (rounded xs) r) (refined-written k m a h)
+    axis-averaged a (means (topology n)) (n .vertices) h
+    ∙ ap (λ (t : Topology). map (rounded (axis a (n .vertices))) (means t)) (refined-topology k m)
+    ∙ ap (λ (xs : List ℤ). map (rounded xs) (means (splitTimes k (topology m)))) (refined-written k m a h)
 
 -- the table of vertices stays whole
 pub whole-vertices : (k : ℕ) (m : Mesh) → length (m .vertices) % 3 ≡ 0 → length (refined k m .vertices) % 3 ≡ 0
@@ -51,9 +64,12 @@ module _ (k : ℕ) (m : Mesh) (whole : length (m .vertices) % 3 ≡ 0) (a v : �
   below : v < length (refined k m .vertices) / 3
   below = omega (arith, whole-vertices k m whole)
 
-  pub written-below : v < count (length (axis a (m .vertices))) (roundsOf k m)
+  pub vertex-below : v < splitTimes k (topology m) .vertexCount
   unfolding topology
-  written-below = rw (count-rounds k m a) below
+  vertex-below = subst (λ (t : Topology). v < t .vertexCount) (refined-topology k m) below
 
-  pub written-at : coordinate (written (roundsOf k m) (axis a (m .vertices))) v ≡ getD (refined k m .vertices) (3 * v + a) (pos 0)
+  pub written-below : v < count (length (axis a (m .vertices))) (roundsOf k (topology m))
+  written-below = rw (count-rounds k m a) vertex-below
+
+  pub written-at : coordinate (written (roundsOf k (topology m)) (axis a (m .vertices))) v ≡ getD (refined k m .vertices) (3 * v + a) (pos 0)
   written-at = ap (λ (ys : List ℤ). coordinate ys v) (sym (refined-written k m a h)) ∙ axis-at a (refined k m .vertices) v h below

@@ -1,4 +1,4 @@
--- What the averaging of a round is about.
+-- Words of inner contracts: the averaging of a round.
 -- Sums: sums of numbers 0 .. n - 1.
 pub mod Sums
 -- Weights: the weights of a cell's corners in its children, by the rules.

@@ -1,4 +1,4 @@
--- The pass over a table of cells: each child counts for its corners, with the sum of their split positions.
+-- Words of inner contracts: the pass over a table of cells. Each child counts for its corners, with the sum of their split positions.
 use mathlib.Core.Path.{_≡_}
 use mathlib.Core.List.{List, []}
 use Prim.Native.Nat.{ℕ, _+_, _*_, _/_, _≤_, _<_, _^_}

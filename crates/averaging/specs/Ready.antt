@@ -1,4 +1,4 @@
--- What the averaging of a round needs.
+-- Words of inner contracts: what the averaging of a round needs.
 use mathlib.Core.Path.{_≡_}
 use mathlib.Core.Bool.{false}
 use mathlib.Core.List.{List}

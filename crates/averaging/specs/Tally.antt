@@ -1,5 +1,5 @@
--- What is kept for each fine vertex while the cells are passed, in rising dimension: the rank, the valence and, for each axis, the sum of the
--- split positions of all corners of the counted cells.
+-- Words of inner contracts: what is kept for each fine vertex while the cells are passed, in rising dimension. It is the rank, the valence
+-- and, for each axis, the sum of the split positions of all corners of the counted cells.
 use mathlib.Core.Path.{_≡_}
 use mathlib.Core.Bool.{cond}
 use mathlib.Core.List.{List}

@@ -1,4 +1,5 @@
--- The split positions of all corners of a child, in eighths, summed, count each corner of the parent with a weight. Here it is by the rules.
+-- Words of inner contracts: weights, by the rules. The split positions of all corners of a child, in eighths, summed, count each corner of
+-- the parent with a weight.
 use mathlib.Core.Bool.{cond}
 use mathlib.Core.List.{List, [], _∷_, map}
 use Prim.Native.Nat.{ℕ, _+_}

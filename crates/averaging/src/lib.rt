@@ -1,4 +1,4 @@
-// The averaging of one round (document 01, 'Average' and 'Rounding'). It rests on the rules, on sound meshes and on the laws of weighted means,
+// The averaging of one round (section 3 of docs/SPECIFICATION.md). It rests on the rules, on sound meshes and on the laws of weighted means,
 // and promises that the output's used part holds the coordinates after the round, and that nothing else of it changes.
 // One pass over the coarse cells in rising dimension: points, segments, quads, hexes. Each child of a cell counts for its corners, with the sum
 // of their split positions; so the first kind that names a fine vertex gives it its rank. Then one division a fine vertex and axis.

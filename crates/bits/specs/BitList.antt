@@ -1,5 +1,5 @@
--- Files and fields as lists of bits: the plainest reading of "Bit fields, most significant first, filling each byte from its top bit".
--- No contract cites it. Two laws (`encode-is-bits`, `field-is-bits`) say that the definitions of `rules`, by numbers, mean the same.
+-- Words of two laws, and of no contract: files and fields as lists of bits, the plainest reading of fields that fill each byte from its top
+-- bit. The laws (`encode-is-bits`, `field-is-bits`) say that the definitions of `rules`, by numbers, mean the same.
 use mathlib.Core.List.{List, [], _∷_, _++_}
 use Prim.Native.Nat.{ℕ, zero, suc, _/_, _%_, _^_}
 use Rattle.rules.specs.Bits.{Field}

@@ -1,4 +1,4 @@
--- A buffer into which bit fields are written one behind another.
+-- Words of inner contracts: a buffer into which bit fields are written one behind another.
 use mathlib.Core.List.{List, [], _∷_, _++_}
 use Prim.Native.Nat.{ℕ, _+_, _*_, _^_, _≤_, _<_}
 use lib.ListN.{drop, getD}

@@ -71,7 +71,7 @@ pub faces-mismatch : (hs qs ss : List ℕ) (r : Faces) → r ≡ Mismatched → 
     → mismatchedFace (topology (mesh [] hs qs ss [])) ≡ true
 faces-mismatch hs qs ss r e f = rw e at f
 
--- "There are 1 to 1,000,000 vertices and at most 250,000 entries in each cell table."
+-- the counts are in their ranges (rule 1.4)
 pub record Few (m : Mesh) : Type 0 where
   pub vertices : length (m .vertices) / 3 ≤ 1_000_000
   pub hexes : length (m .hexes) / 8 ≤ 250_000

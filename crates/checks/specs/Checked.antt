@@ -1,4 +1,4 @@
--- What the checks of a mesh find, and check 7 of its faces.
+-- Words of inner contracts: what the checks of a mesh find, and check 7 of its faces (rules 7.1 to 7.8 of docs/SPECIFICATION.md).
 use mathlib.Core.Path.{_≡_}
 use mathlib.Core.Bool.{true, false}
 use mathlib.Core.List.{List, []}

@@ -1,4 +1,4 @@
--- Edges, faces or cells in classes: which class one is in, and what going over all of them finds.
+-- Words of inner contracts: edges, faces or cells in classes: which class one is in, and what going over all of them finds.
 use mathlib.Core.Path.{_≡_}
 use mathlib.Core.Bool.{Bool, true, false}
 use mathlib.Core.List.{List, [], _∷_, map}

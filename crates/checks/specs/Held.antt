@@ -1,4 +1,4 @@
--- A vertex is in a cell, by the tables: where these hold whole entries it is the test of check 8.
+-- Words of inner contracts: a vertex is in a cell, by the tables: where these hold whole entries it is the test of check 8.
 use mathlib.Core.Bool.{Bool, not, _||_}
 use mathlib.Core.List.{List}
 use Prim.Native.Nat.{ℕ}

@@ -1,4 +1,4 @@
--- What the contracts of the checks cite besides the rules.
+-- Words of inner contracts: what the contracts of the checks cite besides the rules.
 -- Walk: the parts that the walk of a mesh meets, table by table.
 pub mod Walk
 -- Held: a vertex is in a cell, by the tables.

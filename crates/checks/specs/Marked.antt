@@ -1,4 +1,5 @@
--- What marking the corners of a table in a list of numbers leaves there, where the number at place v is that of vertex first + v.
+-- Words of inner contracts: what marking the corners of a table in a list of numbers leaves there, where the number at place v is
+-- that of vertex first + v.
 use mathlib.Core.Path.{_≡_}
 use mathlib.Core.Bool.{cond}
 use mathlib.Core.List.{List}

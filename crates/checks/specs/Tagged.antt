@@ -1,4 +1,5 @@
--- A table of keys in a list of numbers, with a tag for each key: the keys in front, as the numbering keeps them, and the tags behind them.
+-- Words of inner contracts: a table of keys in a list of numbers, with a tag for each key: the keys in front, as the numbering keeps
+-- them, and the tags behind them.
 use mathlib.Core.Path.{_≡_}
 use mathlib.Core.List.{List}
 use Prim.Native.Nat.{ℕ, _+_, _≤_, _<_}

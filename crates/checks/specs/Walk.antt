@@ -1,4 +1,4 @@
--- The parts that the walk of a mesh meets, table by table, in words of the rules.
+-- Words of inner contracts: the parts that the walk of a mesh meets, table by table, in words of the rules.
 use mathlib.Core.List.{List, [], map}
 use Prim.Native.Nat.{ℕ}
 use lib.ListN.{length}

@@ -53,7 +53,7 @@ pub fn any_repeat(k: usize, table: &[u32]) -> bool
     false
 }
 
-// 5, document 01: folded cell.
+// 5, repeated corner (rule 7.5).
 pub fn has_repeated_corner(
     xs: &[i32],
     hexes: &[u32],

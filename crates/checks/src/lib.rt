@@ -1,4 +1,4 @@
-// Document 01's checks 1 to 8 over a whole mesh, in order, and the sizes of a mesh that passes them.
+// Checks 1 to 8 over a whole mesh, in order (rules 7.1 to 7.8 of docs/SPECIFICATION.md), and the sizes of a mesh that passes them (rule 5.1).
 //
 // Rests on `numbering` (tables of keys in lent memory) and on the laws of `lists` and `soundness`. Promises: each check is an equation with
 // its test of `rules`, and the first that fails is the refusal. Checks 6 to 8 and the sizes take lent numbers, and the answer never depends
@@ -67,7 +67,7 @@ fn has_duplicate(words: &mut [u32], of: Parts, cells: &[u32]) -> bool
     }
 }
 
-// 6, document 01: doubled cell.
+// 6, duplicate cell (rule 7.6).
 fn has_duplicate_cell(
     words: &mut [u32],
     xs: &[i32],
@@ -87,7 +87,7 @@ fn has_duplicate_cell(
                 || has_duplicate(words, Parts::Points, points)))
 }
 
-// 8, document 01: loose vertex.
+// 8, isolated vertex (rule 7.8).
 fn has_isolated_vertex(
     words: &mut [u32],
     xs: &[i32],
@@ -133,7 +133,7 @@ fn check_cells_with(
     if has_duplicate_cell(words, xs, hexes, quads, segments, points) {
         return refused(6);
     }
-    // 7, document 01: twisted face.
+    // 7, mismatched face (rule 7.7).
     let met = by_classes::check_faces(words, hexes, quads, segments);
     let by_classes::Faces::Matching(faces) = met else {
         return refused(7);

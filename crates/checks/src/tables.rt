@@ -6,7 +6,7 @@ ghost use Rattle.rules.specs.Lists.{any};
 ghost use Rattle.rules.specs.Mesh.{mesh, topology};
 ghost use Rattle.rules.specs.Refusals.{partialEntry, countOutOfRange, outside, cornerOutOfRange, tableChecks};
 
-// 1, document 01: ragged table.
+// 1, partial entry (rule 7.1).
 pub fn has_partial_entry(
     xs: &[i32],
     hexes: &[u32],
@@ -20,7 +20,7 @@ pub fn has_partial_entry(
     xs.len() % 3 != 0 || (hexes.len() % 8 != 0 || (quads.len() % 4 != 0 || segments.len() % 2 != 0))
 }
 
-// 2, document 01: wrong size.
+// 2, count out of range (rule 7.2).
 pub fn has_count_out_of_range(
     xs: &[i32],
     hexes: &[u32],
@@ -39,7 +39,7 @@ pub fn has_count_out_of_range(
                     || (250000 < segments.len() / 2 || 250000 < points.len()))))
 }
 
-// 3 of one coordinate, document 01: far vertex.
+// 3 of one coordinate (rule 7.3).
 pub fn is_outside(z: i32) -> bool
     ensures { λ r. ⌜ r ≡ outside z ⌝ }
 {
@@ -72,7 +72,7 @@ pub fn reaches(n: usize, table: &[u32]) -> bool
     found
 }
 
-// 4, document 01: unknown corner.
+// 4, corner out of range (rule 7.4).
 pub fn has_corner_out_of_range(
     xs: &[i32],
     hexes: &[u32],

@@ -1,4 +1,4 @@
--- Sizes up to a bound.
+-- Words of inner contracts: sizes up to a bound.
 use Prim.Native.Nat.{ℕ, _≤_}
 use Rattle.rules.specs.declared.Sizes.{Sizes}
 

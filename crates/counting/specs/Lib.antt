@@ -1,2 +1,2 @@
--- Bounded: sizes up to a bound.
+-- Words of inner contracts: Bounded has sizes up to a bound.
 pub mod Bounded

@@ -8,11 +8,11 @@ use Rattle.rules.specs.declared.CountsAnswer.{CountsAnswer}
 use Rattle.rules.specs.Mesh.{Mesh, topology}
 use Rattle.rules.specs.Averaging.{refined}
 use Rattle.rules.specs.Counts.{countsOf, finishedCounts}
-use Rattle.rules.specs.EntryPoints.{countsAnswer, resultTables, refiningRefusal, lentBy, refiningAnswer, refiningOutput}
+use Rattle.rules.specs.EntryPoints.{countsAnswer, resultTables, front, refiningRefusal, lentBy, refiningAnswer, refiningOutput}
 use Rattle.rules.specs.StoredForm.{headerOf, storedMesh, readingRefusal, readingAnswer, readingOutput}
 use Rattle.rules.specs.Viewer.{fixedCounts, fixedLent, andThen, storedRefiningRefusal}
 use Rattle.stored.proofs.Form.{Sized, stored-under, under-sized}
-use Rattle.fixed.specs.Front.{front, Room}
+use Rattle.fixed.specs.Room.{Room}
 use Rattle.fixed.proofs.Fronts.{front-result, room-result}
 
 -- a stored mesh has the lengths that its header gives

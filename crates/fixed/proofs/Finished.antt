@@ -1,60 +1,40 @@
 -- A stored mesh that was refined on tables of the fixed sizes: what stands at the front of the output. Assumes nothing.
-use mathlib.Core.Path.{_≡_, refl, sym, ap, subst, _∙_}
-use mathlib.Core.Bool.{Bool, true, false}
+use mathlib.Core.Path.{_≡_, sym, ap, subst, _∙_}
+use mathlib.Core.Bool.{false}
 use mathlib.Core.List.{List}
-use Prim.Native.Nat.{ℕ, zero, suc}
-use native.Mathlib.Omega.{arith}
+use Prim.Native.Nat.{ℕ}
 use Rattle.rules.specs.declared.Counts.{Counts}
 use Rattle.rules.specs.declared.CountsAnswer.{CountsAnswer}
 use Rattle.rules.specs.Mesh.{Mesh, topology}
 use Rattle.rules.specs.Averaging.{refined}
 use Rattle.rules.specs.Counts.{finishedCounts, fewer}
-use Rattle.rules.specs.Refusals.{check, meshChecks, tooManyRounds, tooLarge}
-use Rattle.rules.specs.EntryPoints.{countsAnswer, resultTables, shortForRefining, refiningRefusal}
+use Rattle.rules.specs.EntryPoints.{countsAnswer, resultTables, front, roundChecks, shortForRefining, refiningRefusal}
 use Rattle.rules.specs.StoredForm.{storedMesh, readingRefusal}
-use Rattle.rules.specs.Viewer.{fixedCounts, fixedLent, andThen, storedRefiningRefusal}
+use Rattle.rules.specs.Viewer.{fixedCounts, fixedLent, storedRefiningRefusal}
 use Rattle.lists.proofs.Tests.{or-neither}
 use Rattle.soundness.specs.Accepted.{Accepted}
-use Rattle.soundness.proofs.Checks.{checks-accept, accepted-passes}
 use Rattle.soundness.proofs.Rounds.{refined-counts, refined-entire}
 use Rattle.stored.specs.Form.{headerFor}
 use Rattle.stored.proofs.Form.{Sized, whole-sized}
-use Rattle.refine.proofs.Decisions.{refused-later}
-use Rattle.fixed.specs.Front.{front, Room}
+use Rattle.plan.proofs.Refusals.{check-passes, both-pass, rounds-then, rounds-pass}
+use Rattle.fixed.specs.Room.{Room}
 use Rattle.fixed.proofs.Fronts.{front-result, room-result}
 use Rattle.fixed.proofs.Answers.{answer-number}
 
 -- ---- what refining lets through
-
-passes : (b : Bool) (n later : ℕ) → check b (suc n) later ≡ 0 → (b ≡ false) × (later ≡ 0)
-passes true n later e = absurd (omega arith)
-passes false n later e = (refl, e)
-
-mesh-passes : (m : Mesh) (later : ℕ) → meshChecks m later ≡ 0 → Accepted m × (later ≡ 0)
-mesh-passes m later e = go (meshChecks m 0) refl
-  where
-    go : (k : ℕ) → meshChecks m 0 ≡ k → Accepted m × (later ≡ 0)
-    go zero h = let a = checks-accept m h in (a, sym (accepted-passes m a later) ∙ e)
-    go (suc k) h = absurd (omega (arith, sym (refused-later m k later h) ∙ e))
 
 -- a mesh that passes the checks, and whose finished counts the tables have places for
 pub record Accepts (m : Mesh) (rounds : ℕ) : Type 0 where
   pub accepted : Accepted m
   pub places : fewer fixedCounts (finishedCounts rounds (topology m)) ≡ false
 
-refining-accepts : (m : Mesh) (rounds : ℕ) → refiningRefusal m rounds fixedLent ≡ 0 → Accepts m rounds
+pub refining-accepts : (m : Mesh) (rounds : ℕ) → refiningRefusal m rounds fixedLent ≡ 0 → Accepts m rounds
 unfolding refiningRefusal shortForRefining
 refining-accepts m rounds e =
     let f = finishedCounts rounds (topology m) in
-    let a = mesh-passes m _ e in
-    let b = passes (tooManyRounds rounds) 8 _ (a .1) in
-    let c = passes (tooLarge rounds (topology m)) 9 _ (b .1) in
-    let d = passes (shortForRefining fixedLent f) 10 0 (c .1) in
-    record { accepted = a .0; places = or-neither (fewer fixedCounts f) _ (d .0) .0 }
-
-both-accept : (k later : ℕ) → andThen k later ≡ 0 → later ≡ 0
-both-accept zero later e = e
-both-accept (suc k) later e = absurd (omega arith)
+    let a = both-pass (roundChecks m rounds 0) _ (sym (rounds-then m rounds _) ∙ e) in
+    let d = check-passes (shortForRefining fixedLent f) 10 0 (a .1) in
+    record { accepted = rounds-pass m rounds (a .0) .accepted; places = or-neither (fewer fixedCounts f) _ (d .0) .0 }
 
 -- ---- the finished mesh
 
@@ -76,7 +56,7 @@ module _ {s : List ℕ} {rounds : ℕ} {old out : Mesh} {r : CountsAnswer} (d : 
 
     pub refining-accepted : Accepts (storedMesh s) rounds
     unfolding storedRefiningRefusal
-    refining-accepted = refining-accepts (storedMesh s) rounds (both-accept (readingRefusal s fixedCounts) _ none)
+    refining-accepted = refining-accepts (storedMesh s) rounds (both-pass (readingRefusal s fixedCounts) _ none .1)
 
     pub counts-are : r .counts ≡ finishedCounts rounds (topology (storedMesh s))
     counts-are = ap (λ (a : CountsAnswer). a .counts) (d .answer ∙ ap (λ (k : ℕ). countsAnswer k (finishedCounts rounds (topology (storedMesh s)))) none)

@@ -6,12 +6,11 @@ use native.Mathlib.Omega.{arith}
 use lib.ListN.{length, drop, length-append}
 use Rattle.rules.specs.Lists.{overwritten}
 use Rattle.rules.specs.Mesh.{Mesh}
-use Rattle.rules.specs.EntryPoints.{resultTables}
+use Rattle.rules.specs.EntryPoints.{resultTables, frontOf, front}
 use Rattle.rules.specs.StoredForm.{Header}
 use Rattle.stored.proofs.Form.{Sized}
-use Rattle.refine.proofs.Turns.{begins}
-use Rattle.refine.specs.Front.{frontOf}
-use Rattle.fixed.specs.Front.{front, Room}
+use Rattle.rounds.proofs.Turns.{begins}
+use Rattle.fixed.specs.Room.{Room}
 
 module _ {A : Type 0} where
   holds : (n : ℕ) (old new : List A) → length new ≡ n → n ≤ length (overwritten old new)

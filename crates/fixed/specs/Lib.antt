@@ -1,3 +1,3 @@
--- What the contracts of this crate cite beside the rules.
--- Front: the mesh at the front of tables that are longer than it.
-pub mod Front
+-- Words of inner contracts. What the contracts of this crate cite beside the rules.
+-- Room: tables that have places for a mesh of given counts.
+pub mod Room

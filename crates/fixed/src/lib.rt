@@ -9,10 +9,10 @@ ghost use mathlib.Core.Path.{_≡_};
 ghost use Rattle.rules.specs.Mesh.{mesh, topology};
 ghost use Rattle.rules.specs.Averaging.{refined};
 ghost use Rattle.rules.specs.Counts.{countsOf, finishedCounts};
-ghost use Rattle.rules.specs.EntryPoints.{countsAnswer, resultTables, refiningRefusal};
+ghost use Rattle.rules.specs.EntryPoints.{countsAnswer, resultTables, front, refiningRefusal};
 ghost use Rattle.rules.specs.StoredForm.{storedMesh};
 ghost use Rattle.rules.specs.Viewer.{fixedCounts, fixedLent, storedRefiningRefusal};
-ghost use Rattle.fixed.specs.Front.{front, Room};
+ghost use Rattle.fixed.specs.Room.{Room};
 
 // Refines a mesh, with working memory of the fixed sizes.
 fn refine_mesh(

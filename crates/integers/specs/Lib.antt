@@ -1,3 +1,3 @@
--- Statements about whole numbers.
+-- Words of inner contracts: statements about whole numbers.
 -- Range: a coordinate is in range.
 pub mod Range

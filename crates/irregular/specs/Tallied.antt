@@ -1,4 +1,5 @@
--- Two numbers for each of n vertices, from vertex `first` on: at v how far the rank of vertex first + v is below 3, and n places behind its valence.
+-- Words of inner contracts: two numbers for each of n vertices, from vertex `first` on: at v how far the rank of vertex first + v is
+-- below 3, and n places behind its valence.
 use mathlib.Core.Path.{_≡_}
 use mathlib.Core.Bool.{Bool, not, cond}
 use mathlib.Core.List.{List}

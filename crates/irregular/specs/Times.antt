@@ -1,4 +1,4 @@
--- How often a vertex is named in a table, and its irregularity by these counts.
+-- Words of inner contracts: how often a vertex is named in a table, and its irregularity by these counts.
 use mathlib.Core.Bool.{Bool, not, cond}
 use mathlib.Core.List.{List}
 use Prim.Native.Nat.{ℕ}

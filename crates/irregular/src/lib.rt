@@ -35,6 +35,15 @@ fn count(
     tallies::count(words, n, hexes, quads, segments, points)
 }
 
+// An answer; the lent numbers are cleared, whichever it is.
+fn answer(words: &mut [u32], refusal: u32, count: u64) -> CountAnswer
+    ensures { λ r. ⌜ (r .refusal ≡ refusal) × (r .count ≡ count) ⌝ }
+    ensures { λ _. ⌜ now (words .exit) ≡ cleared (now (words .entry)) ⌝ }
+{
+    memory::clear_u32(words);
+    CountAnswer { refusal, count }
+}
+
 // How many vertices are irregular.
 pub fn irregular_count(
     xs: &[i32],
@@ -51,10 +60,8 @@ pub fn irregular_count(
     let checked = checks::check_mesh(xs, hexes, quads, segments, points, words);
     let refusal = checked.refusal;
     if refusal != 0 {
-        memory::clear_u32(words);
-        return CountAnswer { refusal, count: 0 };
+        return answer(words, refusal, 0);
     }
     let count = count(xs, hexes, quads, segments, points, words);
-    memory::clear_u32(words);
-    CountAnswer { refusal: 0, count }
+    answer(words, 0, count)
 }

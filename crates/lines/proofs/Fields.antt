@@ -8,6 +8,7 @@ use lib.IntN.{ℤ, pos}
 use Rattle.rules.specs.Lists.{concatMap}
 use Rattle.rules.specs.Mesh.{Mesh, mesh, Topology, topology}
 use Rattle.rules.specs.Averaging.{counted, rank, valence}
+use Rattle.rules.specs.Text.{text}
 use Rattle.rules.specs.Listing.{decimal, signedDecimal, fields, line, vertexLine}
 
 -- a field: a number behind a space
@@ -28,7 +29,7 @@ joined-runs w a b c d fs = simp append-assoc
 -- the line of a vertex, with its coordinates where they stand in the table
 pub vertex-line : (m : Mesh) (t : Topology) (v : ℕ) →
     vertexLine m t v
-    ≡ line (118 ∷ [])
+    ≡ line (text "v")
     (decimal v
     ∷ signedDecimal (getD (m .vertices) (3 * v) (pos 0))
     ∷ signedDecimal (getD (m .vertices) (3 * v + 1) (pos 0))

@@ -1,12 +1,14 @@
 -- What is listed of a refusal and of a finished mesh, and the tests of the input. Assumes nothing.
 use mathlib.Core.Path.{_≡_, refl, sym, ap, _∙_}
 use mathlib.Core.Bool.{true, false}
-use mathlib.Core.List.{List}
-use Prim.Native.Nat.{ℕ, zero, suc, _*_, _≤_, _<_}
+use mathlib.Core.List.{List, [], _∷_}
+use Prim.Native.Nat.{ℕ, zero, suc, _-_, _*_, _≤_, _<_}
+use native.Mathlib.Decide.{decLt}
 use native.Mathlib.Omega.{arith}
 use lib.Dec.{ltb, eqb}
-use lib.ListN.{length, drop, getD}
-use borrow.Author.Tests.{lt-ltb, le-ltb, ltb-false, eq-eqb, ne-eqb}
+use lib.ListN.{length, take, drop, getD}
+use lib.Seq.{take-all, length-take-le, getD-take}
+use borrow.Author.Tests.{lt-ltb, le-ltb, ltb-false, ne-eqb}
 use Rattle.rules.specs.declared.CountsAnswer.{CountsAnswer}
 use Rattle.rules.specs.Mesh.{Mesh, topology}
 use Rattle.rules.specs.Averaging.{refined}
@@ -51,18 +53,42 @@ finished-fits m rounds a =
       near = refined-near m (a .accepted) rounds;
     }
 
--- ---- the input
+-- ---- the first n bytes of the input array
 
-module _ (input : List ℕ) where
-  pub over-limit : 16_385 < length input → refusedLine 11 ≡ listing input
-  unfolding listing listingRefusal
-  over-limit h = rw (lt-ltb 16_385 (length input) h)
+-- what stands behind the first byte
+rest-of-front : (k : ℕ) (l : List ℕ) → drop 1 (take (suc k) l) ≡ take k (drop 1 l)
+rest-of-front zero [] = refl
+rest-of-front (suc k) [] = refl
+rest-of-front k (x ∷ l) = refl
 
-  pub no-byte : length input ≤ 16_385 → length input ≡ 0 → refusedLine 13 ≡ listing input
-  unfolding listing listingRefusal
-  no-byte l h = rw (le-ltb 16_385 (length input) l, eq-eqb (length input) 0 h)
+module _ (input : List ℕ) (n : ℕ) (full : length input ≡ 16_386) where
+  too-long : 16_385 < n → 16_385 < length (take n input)
+  too-long h = elim (decLt (length input) n) [
+    | yes l ↦ rw (take-all n input (omega arith)) (omega arith)
+    | no f ↦ rw (length-take-le n input (omega arith)) h
+  ]
 
-  pub some-bytes : length input ≤ 16_385 → (length input ≡ 0 → ⊥) →
-      listed (storedRefiningRefusal (drop 1 input) (getD input 0 0)) (refined (getD input 0 0) (storedMesh (drop 1 input))) ≡ listing input
+  pub over-limit : 16_385 < n → refusedLine 11 ≡ listing (take n input)
   unfolding listing listingRefusal
-  some-bytes l h = rw (le-ltb 16_385 (length input) l, ne-eqb (length input) 0 h)
+  over-limit h = rw (lt-ltb 16_385 (length (take n input)) (too-long h))
+
+  pub no-byte : n ≡ 0 → refusedLine 13 ≡ listing (take n input)
+  unfolding listing listingRefusal
+  no-byte h = rw h
+
+pub some-bytes : (input : List ℕ) (n : ℕ) → length input ≡ 16_386 → n ≤ 16_385 → (n ≡ 0 → ⊥)
+    → let s = take (n - 1) (drop 1 input) in
+    listed (storedRefiningRefusal s (getD input 0 0)) (refined (getD input 0 0) (storedMesh s)) ≡ listing (take n input)
+unfolding listing listingRefusal
+some-bytes input zero full l h = absurd (h refl)
+some-bytes input (suc k) full l h =
+    let front = take (suc k) input in
+    let long = length-take-le (suc k) input (omega arith) in
+    let less : suc k - 1 ≡ k = omega arith in
+    sym (rw (
+      less,
+      le-ltb 16_385 (length front) (omega arith),
+      ne-eqb (length front) 0 (λ e. omega arith),
+      rest-of-front k input,
+      getD-take (suc k) input 0 0 (omega arith),
+    ))

@@ -13,6 +13,7 @@ use Rattle.rules.specs.Mesh.{Mesh, Topology, topology}
 use Rattle.rules.specs.Averaging.{holding, Counted, orElse, counted, rank, valence}
 use Rattle.rules.specs.Counts.{countsOf}
 use Rattle.rules.specs.Refusals.{outside, coordinateOutOfRange}
+use Rattle.rules.specs.Text.{text}
 use Rattle.rules.specs.Listing.{decimal, signedDecimal, fields, line, meshLine, vertexLine, cellLines, meshLines, refusedLine}
 use Rattle.lists.specs.Membership.{In}
 use Rattle.lists.proofs.Tests.{none-at}
@@ -47,7 +48,7 @@ line-length word fs h = omega (arith, length-append word (fields fs), fields-len
 
 pub refused-length : (n : ℕ) → n < 2 ^ 32 → length (refusedLine n) ≤ 19
 unfolding refusedLine
-refused-length n h = line-length (114 ∷ 101 ∷ 102 ∷ 117 ∷ 115 ∷ 101 ∷ 100 ∷ []) (decimal n ∷ []) (short-decimal n (omega arith), tt)
+refused-length n h = line-length (text "refused") (decimal n ∷ []) (short-decimal n (omega arith), tt)
 
 -- the runs of a list, each of at most b bytes
 runs-length : {A : Type 0} (f : A → List ℕ) (b : ℕ) (xs : List A) → ((x : A) → In x xs → length (f x) ≤ b) → length (concatMap f xs) ≤ b * length xs
@@ -74,7 +75,7 @@ cell-length letter k table w cell i =
     let short = short-cell k (drop (k * c) table) (λ j. rw (getD-drop (k * c) table j 0) (w (k * c + j))) in
     omega (arith, line-length (letter ∷ []) (map decimal cell) (rw e short), length-map cell decimal, length-entry k table cell i)
 
-pub cells-length : (letter k : ℕ) (table : List ℕ) → Words table → length (cellLines letter (cut k table)) ≤ (11 * k + 2) * (length table / k)
+pub cells-length : (letter k : ℕ) (table : List ℕ) → Words table → length (cellLines (letter ∷ []) (cut k table)) ≤ (11 * k + 2) * (length table / k)
 unfolding cellLines
 cells-length letter k table w = rw (← length-cut k table) (runs-length _ (11 * k + 2) (cut k table) (cell-length letter k table w))
 
@@ -119,7 +120,7 @@ module _ (m : Mesh) (f : Fitting m) where
   vertex-length v h =
       let at : ℕ → List ℕ = λ i. signedDecimal (getD (m .vertices) i (pos 0)) in
       rw (vertex-line m (topology m) v)
-      (line-length (118 ∷ [])
+      (line-length (text "v")
       (decimal v ∷ at (3 * v) ∷ at (3 * v + 1) ∷ at (3 * v + 2) ∷ decimal (rank (topology m) v) ∷ decimal (valence (topology m) v) ∷ []) (
         short-decimal v (omega (arith, f .vertices)),
         (
@@ -144,7 +145,7 @@ module _ (m : Mesh) (f : Fitting m) where
   unfolding meshLine countsOf
   first-length =
       let c = countsOf m in
-      line-length (109 ∷ 101 ∷ 115 ∷ 104 ∷ []) (map decimal (c .vertices ∷ c .hexes ∷ c .quads ∷ c .segments ∷ c .points ∷ [])) (
+      line-length (text "mesh") (map decimal (c .vertices ∷ c .hexes ∷ c .quads ∷ c .segments ∷ c .points ∷ [])) (
         short-decimal _ (omega (arith, f .vertices)),
         (
           short-decimal _ (omega (arith, f .hexes)),

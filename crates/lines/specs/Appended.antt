@@ -1,4 +1,4 @@
--- Bytes appended to what a buffer holds already: every function that prints promises this, and needs this room.
+-- Words of inner contracts: bytes appended to what a buffer holds already: every function that prints promises this, and needs this room.
 use mathlib.Core.Path.{_≡_}
 use mathlib.Core.List.{List}
 use Prim.Native.Nat.{ℕ, _+_, _≤_}

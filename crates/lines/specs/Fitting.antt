@@ -1,4 +1,4 @@
--- Which meshes the listing's output array has places for.
+-- Words of inner contracts: which meshes the listing's output array has places for.
 use mathlib.Core.Path.{_≡_}
 use mathlib.Core.Bool.{false}
 use Prim.Native.Nat.{ℕ, _*_, _≤_}

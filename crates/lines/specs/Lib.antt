@@ -1,4 +1,4 @@
--- What the contracts of this crate cite beside the rules.
+-- Words of inner contracts, beside the rules.
 -- Appended: a run of bytes behind what a buffer holds already.
 pub mod Appended
 -- Fitting: the meshes whose listing fits the output.

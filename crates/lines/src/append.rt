@@ -1,7 +1,8 @@
 // Bytes, words and numbers appended to a buffer: each function stores from `at` on and answers with the place behind.
 ghost use mathlib.Core.Path.{_≡_};
-ghost use mathlib.Core.List.{[], _∷_};
+ghost use mathlib.Core.List.{[], _∷_, _++_};
 ghost use lib.IntN.{natAbs};
+ghost use Rattle.rules.specs.Text.{text};
 ghost use Rattle.rules.specs.Listing.{decimal, signedDecimal};
 ghost use Rattle.lines.specs.Appended.{Room, Appended};
 
@@ -57,7 +58,7 @@ pub fn append_signed(z: i32, out: &mut [u8], at: usize) -> usize
 {
     let n = magnitude(z);
     if z < 0 {
-        let next = append_byte(45, out, at);
+        let next = append_byte(b'-', out, at);
         return append_decimal(n, out, next);
     }
     append_decimal(n, out, at)
@@ -65,17 +66,17 @@ pub fn append_signed(z: i32, out: &mut [u8], at: usize) -> usize
 
 // A field: a number behind a space.
 pub fn append_field(n: usize, out: &mut [u8], at: usize) -> usize
-    requires { ⌜ Room (now out) at (32 ∷ decimal n) ⌝ }
-    ensures { λ r. ⌜ Appended (now (out .entry)) (now (out .exit)) at r (32 ∷ decimal n) ⌝ }
+    requires { ⌜ Room (now out) at (text " " ++ decimal n) ⌝ }
+    ensures { λ r. ⌜ Appended (now (out .entry)) (now (out .exit)) at r (text " " ++ decimal n) ⌝ }
 {
-    let next = append_byte(32, out, at);
+    let next = append_byte(b' ', out, at);
     append_decimal(n, out, next)
 }
 
 pub fn append_signed_field(z: i32, out: &mut [u8], at: usize) -> usize
-    requires { ⌜ Room (now out) at (32 ∷ signedDecimal z) ⌝ }
-    ensures { λ r. ⌜ Appended (now (out .entry)) (now (out .exit)) at r (32 ∷ signedDecimal z) ⌝ }
+    requires { ⌜ Room (now out) at (text " " ++ signedDecimal z) ⌝ }
+    ensures { λ r. ⌜ Appended (now (out .entry)) (now (out .exit)) at r (text " " ++ signedDecimal z) ⌝ }
 {
-    let next = append_byte(32, out, at);
+    let next = append_byte(b' ', out, at);
     append_signed(z, out, next)
 }

@@ -1,20 +1,21 @@
 // What the listing program prints, as bytes in a buffer.
 // Rests on `fixed` for the mesh that is read and refined, and on `checks` for the cells that hold a vertex.
-// Promises of `listing`, for every input: the rules' bytes stand at the front of the output, and the answer is how many they are.
+// Promises of `lines`, for every input: the rules' bytes stand at the front of the output, and the answer is how many they are.
 use crate::rows::mesh_lines;
 use crate::rows::refused_line;
 use fixed::refine_stored;
 use rules::Counts;
 ghost use mathlib.Core.Path.{_≡_};
 ghost use Prim.Native.Nat.{_≤_};
-ghost use lib.ListN.{length};
+ghost use lib.ListN.{length, take};
 ghost use Rattle.rules.specs.Lists.{overwritten};
 ghost use Rattle.rules.specs.Mesh.{mesh};
 ghost use Rattle.rules.specs.Averaging.{refined};
+ghost use Rattle.rules.specs.EntryPoints.{front};
 ghost use Rattle.rules.specs.StoredForm.{storedMesh};
 ghost use Rattle.rules.specs.Viewer.{storedRefiningRefusal};
 ghost use Rattle.rules.specs.Listing.{meshLines, listed, listing};
-ghost use Rattle.fixed.specs.Front.{front, Room};
+ghost use Rattle.fixed.specs.Room.{Room};
 ghost use Rattle.lines.specs.Appended.{Printed};
 ghost use Rattle.lines.specs.Fitting.{Fitting, outputSize};
 
@@ -83,16 +84,18 @@ fn stored_lines(bytes: &[u8], rounds: u32, out: &mut [u8]) -> usize
     front_lines(c, &xs, &hexes, &quads, &segments, &points, out)
 }
 
-// What the program prints, of all that it read: the lines stand at the front of the output, and the answer says how long they are.
-pub fn listing(input: &[u8], out: &mut [u8; 112348]) -> usize
-    ensures count { λ r. ⌜ r ≡ length (listing (now (input .entry))) ⌝ }
-    ensures output { λ _. ⌜ now (out .exit) ≡ overwritten (now (out .entry)) (listing (now (input .entry))) ⌝ }
+// What the program prints of the first n bytes of its input array, or of all of them if n is larger: the lines stand at the front of the
+// output, and the answer says how long they are. The array has one byte more than the limit of 16,385, so that a longer input shows.
+pub fn lines(input: &[u8; 16386], n: usize, out: &mut [u8; 112348]) -> usize
+    ensures count { λ r. ⌜ r ≡ length (listing (take n (now (input .entry)))) ⌝ }
+    ensures output { λ _. ⌜ now (out .exit) ≡ overwritten (now (out .entry)) (listing (take n (now (input .entry)))) ⌝ }
 {
-    if 16385 < input.len() {
+    let bytes = &input[..];
+    if 16385 < n {
         return refused_line(11, out);
     }
-    if input.len() == 0 {
+    if n == 0 {
         return refused_line(13, out);
     }
-    stored_lines(&input[1..], input[0] as u32, out)
+    stored_lines(&bytes[1..n], bytes[0] as u32, out)
 }

@@ -8,6 +8,7 @@ ghost use Prim.Native.Nat.{_/_, _<_, _≤_};
 ghost use lib.ListN.{length};
 ghost use Rattle.rules.specs.Lists.{concatMap, cut, upFrom};
 ghost use Rattle.rules.specs.Mesh.{mesh, topology};
+ghost use Rattle.rules.specs.Text.{text};
 ghost use Rattle.rules.specs.Listing.{decimal, signedDecimal, fields, line, meshLine, vertexLine, cellLines, meshLines, refusedLine};
 ghost use Rattle.lines.specs.Appended.{Room, Appended, Printed};
 ghost use Rattle.lines.specs.Fitting.{Fitting, outputSize};
@@ -23,7 +24,7 @@ fn append_fields(numbers: &[u32], out: &mut [u8], at: usize) -> usize
         next = append::append_field(numbers[i] as usize, out, next);
         i += 1;
     }
-    append::append_byte(10, out, next)
+    append::append_byte(b'\n', out, next)
 }
 
 // The first line: `mesh` and the counts.
@@ -48,8 +49,8 @@ fn append_cell_line(letter: u8, cell: &[u32], out: &mut [u8], at: usize) -> usiz
 // The lines of a table; a cell has k corners.
 fn append_cell_lines(letter: u8, k: usize, table: &[u32], out: &mut [u8], at: usize) -> usize
     requires { ⌜ 0 < k ⌝ }
-    requires { ⌜ Room (now out) at (cellLines letter (cut k (now table))) ⌝ }
-    ensures { λ r. ⌜ Appended (now (out .entry)) (now (out .exit)) at r (cellLines letter (cut k (now (table .entry)))) ⌝ }
+    requires { ⌜ Room (now out) at (cellLines (letter ∷ []) (cut k (now table))) ⌝ }
+    ensures { λ r. ⌜ Appended (now (out .entry)) (now (out .exit)) at r (cellLines (letter ∷ []) (cut k (now (table .entry)))) ⌝ }
 {
     let n = table.len() / k;
     let mut next = at;
@@ -65,8 +66,8 @@ fn append_cell_lines(letter: u8, k: usize, table: &[u32], out: &mut [u8], at: us
 
 // The coordinates of a vertex.
 fn append_position(x: i32, y: i32, z: i32, out: &mut [u8], at: usize) -> usize
-    requires { ⌜ Room (now out) at ((32 ∷ signedDecimal x) ++ ((32 ∷ signedDecimal y) ++ (32 ∷ signedDecimal z))) ⌝ }
-    ensures { λ r. ⌜ Appended (now (out .entry)) (now (out .exit)) at r ((32 ∷ signedDecimal x) ++ ((32 ∷ signedDecimal y) ++ (32 ∷ signedDecimal z))) ⌝ }
+    requires { ⌜ Room (now out) at ((text " " ++ signedDecimal x) ++ ((text " " ++ signedDecimal y) ++ (text " " ++ signedDecimal z))) ⌝ }
+    ensures { λ r. ⌜ Appended (now (out .entry)) (now (out .exit)) at r ((text " " ++ signedDecimal x) ++ ((text " " ++ signedDecimal y) ++ (text " " ++ signedDecimal z))) ⌝ }
 {
     let a = append::append_signed_field(x, out, at);
     let b = append::append_signed_field(y, out, a);
@@ -80,13 +81,13 @@ fn append_rank(r: Ranked, out: &mut [u8], at: usize) -> usize
 {
     let a = append::append_field(r.rank, out, at);
     let b = append::append_field(r.valence, out, a);
-    append::append_byte(10, out, b)
+    append::append_byte(b'\n', out, b)
 }
 
 // The line of vertex v at x, y, z.
 fn append_vertex(v: u32, x: i32, y: i32, z: i32, r: Ranked, out: &mut [u8], at: usize) -> usize
-    requires { ⌜ Room (now out) at (line (118 ∷ []) (decimal v ∷ signedDecimal x ∷ signedDecimal y ∷ signedDecimal z ∷ decimal (r .rank) ∷ decimal (r .valence) ∷ [])) ⌝ }
-    ensures { λ e. ⌜ Appended (now (out .entry)) (now (out .exit)) at e (line (118 ∷ []) (decimal v ∷ signedDecimal x ∷ signedDecimal y ∷ signedDecimal z ∷ decimal (r .rank) ∷ decimal (r .valence) ∷ [])) ⌝ }
+    requires { ⌜ Room (now out) at (line (text "v") (decimal v ∷ signedDecimal x ∷ signedDecimal y ∷ signedDecimal z ∷ decimal (r .rank) ∷ decimal (r .valence) ∷ [])) ⌝ }
+    ensures { λ e. ⌜ Appended (now (out .entry)) (now (out .exit)) at e (line (text "v") (decimal v ∷ signedDecimal x ∷ signedDecimal y ∷ signedDecimal z ∷ decimal (r .rank) ∷ decimal (r .valence) ∷ [])) ⌝ }
 {
     let a = append::append_byte(b'v', out, at);
     let b = append::append_field(v as usize, out, a);
@@ -147,8 +148,8 @@ fn append_cells(
     out: &mut [u8],
     at: usize,
 ) -> usize
-    requires { ⌜ Room (now out) at (cellLines 104 (cut 8 (now hexes)) ++ (cellLines 113 (cut 4 (now quads)) ++ (cellLines 115 (cut 2 (now segments)) ++ cellLines 112 (cut 1 (now points))))) ⌝ }
-    ensures { λ r. ⌜ Appended (now (out .entry)) (now (out .exit)) at r (cellLines 104 (cut 8 (now (hexes .entry))) ++ (cellLines 113 (cut 4 (now (quads .entry))) ++ (cellLines 115 (cut 2 (now (segments .entry))) ++ cellLines 112 (cut 1 (now (points .entry)))))) ⌝ }
+    requires { ⌜ Room (now out) at (cellLines (text "h") (cut 8 (now hexes)) ++ (cellLines (text "q") (cut 4 (now quads)) ++ (cellLines (text "s") (cut 2 (now segments)) ++ cellLines (text "p") (cut 1 (now points))))) ⌝ }
+    ensures { λ r. ⌜ Appended (now (out .entry)) (now (out .exit)) at r (cellLines (text "h") (cut 8 (now (hexes .entry))) ++ (cellLines (text "q") (cut 4 (now (quads .entry))) ++ (cellLines (text "s") (cut 2 (now (segments .entry))) ++ cellLines (text "p") (cut 1 (now (points .entry)))))) ⌝ }
 {
     let a = append_cell_lines(b'h', 8, hexes, out, at);
     let b = append_cell_lines(b'q', 4, quads, out, a);

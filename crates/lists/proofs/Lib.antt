@@ -15,3 +15,5 @@ pub mod Distinct
 pub mod Tables
 -- Finite statements, decided by computing.
 pub mod Decide
+-- Small lists of which the statements hold, and of which they do not.
+pub mod Instance

@@ -1,4 +1,4 @@
--- Membership and the absence of repeats, as statements that compute.
+-- Words of inner contracts: membership and the absence of repeats, as statements that compute.
 use mathlib.Core.Path.{_≡_}
 use mathlib.Core.Logic.{_⊎_}
 use mathlib.Core.List.{List, [], _∷_}

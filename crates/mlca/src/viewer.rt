@@ -6,14 +6,17 @@ use rules::Counts;
 use stored::read;
 use stored::write;
 ghost use mathlib.Core.Path.{_≡_};
-ghost use Prim.Native.Nat.{_^_, _<_};
-ghost use lib.ListN.{length};
+ghost use mathlib.Core.Bool.{true};
+ghost use Prim.Native.Nat.{ℕ, suc, _^_, _<_};
+ghost use lib.ListN.{length, take, replicate};
+ghost use lib.IntN.{pos};
 ghost use Rattle.rules.specs.Mesh.{mesh, topology};
+ghost use Rattle.rules.specs.Accuracy.{Property3};
 ghost use Rattle.rules.specs.Refusals.{meshChecks};
-ghost use Rattle.rules.specs.EntryPoints.{irregularCount};
-ghost use Rattle.rules.specs.StoredForm.{storedForm, writingRefusal, writingOutput};
+ghost use Rattle.rules.specs.EntryPoints.{front, rangeKept, irregularCount};
+ghost use Rattle.rules.specs.StoredForm.{storedForm, storedMesh, writingRefusal, writingOutput};
 ghost use Rattle.rules.specs.Viewer.{signed, viewerAnswer, viewerOutput, viewerIrregularCount};
-ghost use Rattle.fixed.specs.Front.{front, Room};
+ghost use Rattle.fixed.specs.Room.{Room};
 
 // An answer as one number.
 fn signed(refusal: u32, count: u64) -> i64
@@ -60,11 +63,14 @@ fn write_front(
     signed(w.refusal, w.count)
 }
 
-// Refines a stored mesh and writes the finished one at the front of the result buffer: the count of bytes, and the rest unchanged.
+// Refines a stored mesh and writes the finished one at the front of the result buffer: the count of bytes, and the rest unchanged. Of what it
+// wrote, the third property; and every coordinate of every round in range.
 #[no_mangle]
-pub extern "C" fn mlca_refine(bytes: &[u8], rounds: u32, result: &mut [u8]) -> i64
-    ensures answer { λ r. ⌜ r ≡ viewerAnswer (now (bytes .entry)) rounds (now (result .entry)) ⌝ }
-    ensures output { λ _. ⌜ now (result .exit) ≡ viewerOutput (now (bytes .entry)) rounds (now (result .entry)) ⌝ }
+pub extern "C" fn mlca_refine(stored: &[u8], rounds: u32, result: &mut [u8]) -> i64
+    ensures answer { λ r. ⌜ r ≡ viewerAnswer (now (stored .entry)) rounds (now (result .entry)) ⌝ }
+    ensures output { λ _. ⌜ now (result .exit) ≡ viewerOutput (now (stored .entry)) rounds (now (result .entry)) ⌝ }
+    ensures accuracy { λ r. ⌜ ((n : ℕ) → r ≡ pos n → Property3 rounds (storedMesh (now (stored .entry))) (storedMesh (take n (now (result .exit))) .vertices)) ⌝ }
+    ensures range { λ r. ⌜ ((n : ℕ) → r ≡ pos n → rangeKept rounds (storedMesh (now (stored .entry))) ≡ replicate (suc rounds) true) ⌝ }
 {
     let mut xs = [0i32; 3000];
     let mut hexes = [0u32; 2048];
@@ -72,7 +78,7 @@ pub extern "C" fn mlca_refine(bytes: &[u8], rounds: u32, result: &mut [u8]) -> i
     let mut segments = [0u32; 512];
     let mut points = [0u32; 256];
     let r = refine_stored(
-        bytes,
+        stored,
         rounds,
         &mut xs,
         &mut hexes,
@@ -121,8 +127,8 @@ fn count_front(
 
 // The irregular count of a stored mesh.
 #[no_mangle]
-pub extern "C" fn mlca_irregular_count(bytes: &[u8]) -> i64
-    ensures { λ r. ⌜ r ≡ viewerIrregularCount (now (bytes .entry)) ⌝ }
+pub extern "C" fn mlca_irregular_count(stored: &[u8]) -> i64
+    ensures { λ r. ⌜ r ≡ viewerIrregularCount (now (stored .entry)) ⌝ }
 {
     let mut xs = [0i32; 3000];
     let mut hexes = [0u32; 2048];
@@ -130,7 +136,7 @@ pub extern "C" fn mlca_irregular_count(bytes: &[u8]) -> i64
     let mut segments = [0u32; 512];
     let mut points = [0u32; 256];
     let r = read(
-        bytes,
+        stored,
         &mut xs,
         &mut hexes,
         &mut quads,

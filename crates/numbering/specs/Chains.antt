@@ -1,4 +1,4 @@
--- A hash table with chains, as functions on numbers: it says nothing of where they are stored.
+-- Words of inner contracts: a hash table with chains, as functions on numbers: it says nothing of where they are stored.
 -- Entries 0 .. n - 1 have keys. A link is one more than an entry's number, or 0 for none.
 use mathlib.Core.Path.{_≡_}
 use Prim.Native.Nat.{ℕ, suc, _≤_, _<_}

@@ -1,4 +1,4 @@
--- What counting distinct keys answers.
+-- Words of inner contracts: what counting distinct keys answers.
 use mathlib.Core.Path.{_≡_}
 use mathlib.Core.List.{List, _++_}
 use Prim.Native.Nat.{ℕ}
@@ -14,7 +14,7 @@ abbrev pub CountOf : List Key → Tally → Type 0
 CountOf ks (Keys n) = n ≡ length (distinct ks)
 CountOf ks Full = Unit {0}
 
--- the keys of the edges and of the faces in the order met: "walking hexes, then quads, then segments"
+-- the keys of the edges and of the faces in the order met (rule 2.2 of docs/SPECIFICATION.md)
 unfoldable pub edgeKeys : List ℕ → List ℕ → List ℕ → List Key
 edgeKeys hexes quads segments = tableKeys HexEdges hexes ++ (tableKeys QuadEdges quads ++ tableKeys Segments segments)
 

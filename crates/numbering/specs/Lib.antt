@@ -1,4 +1,4 @@
--- What the contracts of the numbering cite.
+-- Words of inner contracts: what the contracts of the numbering cite.
 -- Chains: a hash table with chains, as functions on numbers.
 pub mod Chains
 -- Table: the same in a list of numbers; what it stands for; what meeting a key does.

@@ -1,4 +1,4 @@
--- What meeting a key answers.
+-- Words of inner contracts: what meeting a key answers.
 use mathlib.Core.Path.{_≡_}
 use mathlib.Core.List.{List}
 use Prim.Native.Nat.{ℕ, _<_}

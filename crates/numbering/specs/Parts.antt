@@ -1,4 +1,4 @@
--- The parts of cells that are numbered, and what numbering them answers.
+-- Words of inner contracts: the parts of cells that are numbered, and what numbering them answers.
 use mathlib.Core.Path.{_≡_}
 use mathlib.Core.List.{List, _++_, map}
 use Prim.Native.Nat.{ℕ, _+_, _^_, _<_}

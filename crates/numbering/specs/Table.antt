@@ -1,4 +1,5 @@
--- The table of specs/Chains.antt in a list of numbers: the heads of room + 1 slots, then the entries, each a link and the c numbers of its key.
+-- Words of inner contracts: the table of specs/Chains.antt in a list of numbers: the heads of room + 1 slots, then the entries, each a
+-- link and the c numbers of its key.
 use mathlib.Core.Path.{_≡_}
 use mathlib.Core.List.{List, [], _∷_, map}
 use Prim.Native.Nat.{ℕ, _+_, _*_, _/_, _%_, _^_, _≤_, _<_}

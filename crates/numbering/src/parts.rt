@@ -1,4 +1,4 @@
-// The parts of cells, met in the order of document 01: cell after cell, part after part.
+// The parts of cells, met in the order of rule 2.2 of docs/SPECIFICATION.md: cell after cell, part after part.
 use crate::keys;
 use crate::table;
 ghost use mathlib.Core.Path.{_≡_};

@@ -1,10 +1,4 @@
--- Five: five tables at once, and parts of them.
-pub mod Five
--- Turns: the rounds in place.
-pub mod Turns
--- Decisions: the refusals one after the other; the sizes of a mesh that passed the checks.
-pub mod Decisions
--- Lending: from the checks to the rounds and back.
-pub mod Lending
--- OneRound: what splitting and averaging need, and what they leave.
-pub mod OneRound
+-- Decided: check 11 after the others, and what acceptance tells of lent memory.
+pub mod Decided
+-- Written: what the answer tells of the coordinates that were written, and cleared memory.
+pub mod Written

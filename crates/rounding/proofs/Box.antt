@@ -7,12 +7,13 @@ use lib.ListN.{length}
 use lib.IntN.{ℤ, pos, _*ℤ_}
 use lib.Signed.{ltZ, _≤ℤ_, ≤ℤ-refl, ltZ-yes, ltZ-no}
 use Rattle.rules.specs.Means.{Mean, Round, noMean, meanOf, coordinate, total, rounded}
-use Rattle.rules.specs.Accuracy.{written, lesser, greater, leastOf, greatestOf, least, greatest}
+use Rattle.rules.specs.Accuracy.{lesser, greater, leastOf, greatestOf, least, greatest}
 use Rattle.lists.proofs.Membership.{getD-map}
 use Rattle.lists.proofs.Each.{each-at}
 use Rattle.integers.proofs.Linear.{≤ℤ-trans, ≤ℤ-of-<, cond-ind}
 use Rattle.integers.proofs.Floor.{floor-lower, floor-upper}
 use Rattle.rounding.specs.Good.{GoodMean, count, GoodRounds}
+use Rattle.rounding.specs.Written.{written}
 use Rattle.rounding.proofs.Draws.{total-le, total-const}
 
 abbrev pub Between : ℤ → ℤ → ℤ → Type 0

@@ -7,12 +7,13 @@ use native.Mathlib.Nat.{mul-pos, mul-le-mul-left}
 use lib.ListN.{length}
 use lib.IntN.{ℤ, pos, _+ℤ_, _*ℤ_}
 use Rattle.rules.specs.Means.{Round, noMean, meanOf, floorDiv, floorMod, coordinate, total, rounded, remainder}
-use Rattle.rules.specs.Accuracy.{written, common, exactDivisor, unrounded, exact}
+use Rattle.rules.specs.Accuracy.{common, exactDivisor, unrounded, exact}
 use Rattle.lists.proofs.Membership.{getD-map}
 use Rattle.lists.proofs.Each.{each-at}
 use Rattle.integers.proofs.Linear.{var, nat, _⊕_, _⊗_, by-eq, of-eq}
 use Rattle.integers.proofs.Floor.{floorMod-lt, floor-split}
 use Rattle.rounding.specs.Good.{GoodMean, count, GoodRounds}
+use Rattle.rounding.specs.Written.{written}
 use Rattle.rounding.proofs.Draws.{natTotal, natTotal-le, total-line}
 use Rattle.rounding.proofs.Exact.{factor, factor-is, factor-pos, exactDivisor-pos}
 

@@ -5,8 +5,8 @@ pub mod Draws
 pub mod Exact
 -- Lag: how far the written coordinate is behind the exact one.
 pub mod Lag
--- Feeding: it is not behind exactly when no division that feeds it left a remainder.
-pub mod Feeding
+-- NoLag: it is not behind exactly when no division that feeds it left a remainder.
+pub mod NoLag
 -- Box: the written coordinates stay inside the bounding box.
 pub mod Box
 -- Accurate: the third property, for rounds of means.

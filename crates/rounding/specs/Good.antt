@@ -1,4 +1,5 @@
--- What a round must be: its means draw on vertices that are there, each with a weight above 0, and the weights sum to the divisor.
+-- Words of inner contracts: what a round must be. Its means draw on vertices that are there, each with a weight above 0, and the weights sum
+-- to the divisor.
 use mathlib.Core.Path.{_≡_}
 use mathlib.Core.List.{List, [], _∷_}
 use Prim.Native.Nat.{ℕ, _+_, _<_}

@@ -1,5 +1,5 @@
--- What is claimed of rounds.
+-- Words of inner contracts: rounds of means.
 -- Good: what a round must be.
 pub mod Good
--- Accuracy: what holds of the written coordinate against the exact one.
-pub mod Accuracy
+-- Written: the written coordinates, and where no remainder was left.
+pub mod Written

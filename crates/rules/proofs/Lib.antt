@@ -1,2 +1,2 @@
--- Samples: document 01's samples, computed.
+-- Samples: the table of samples, computed.
 pub mod Samples

@@ -1,64 +1,74 @@
--- Document 01, 'Rounding': the written and the exact coordinates after some rounds, what feeds a coordinate, and the bounding box: what the
--- third property speaks of. A list of rounds has the latest first.
+-- Section 4: the exact coordinates, what feeds a coordinate, the bounding box, and what holds of each written coordinate: the third property,
+-- which refining promises of what it writes. Nothing exact passes through a rounded coordinate. Of a list of rounds the latest is first.
 use mathlib.Core.Path.{_≡_}
-use mathlib.Core.Bool.{cond}
+use mathlib.Core.Bool.{Bool, true, cond, _&&_}
 use mathlib.Core.List.{List, [], _∷_, map}
-use Prim.Native.Nat.{ℕ, _*_, _/_}
-use lib.IntN.{ℤ, pos, _*ℤ_}
-use lib.Signed.{ltZ}
-use Rattle.rules.specs.Lists.{Each, concatMap}
-use Rattle.rules.specs.Means.{Draw, Mean, Round, meanOf, coordinate, total, rounded, remainder}
+use Prim.Native.Nat.{ℕ, zero, suc, _*_, _/_, _%_}
+use lib.ListN.{length, getD, replicate}
+use lib.IntN.{ℤ, pos, _+ℤ_, _*ℤ_}
+use lib.Signed.{ltZ, leZ}
+use lib.Dec.{ltb, eqb}
+use Rattle.rules.specs.Lists.{any, keep, concat, concatMap, upFrom, has}
+use Rattle.rules.specs.Mesh.{Mesh, Kind, kinds, dimension, Topology, topology, cellsOf}
+use Rattle.rules.specs.Split.{parts, children, split}
+use Rattle.rules.specs.Means.{Mean, Round, meanOf, coordinate, total, remainder}
+use Rattle.rules.specs.Averaging.{rank, means, axis, refined, splitTimes, roundsOf}
 
--- ---- the written coordinates of one axis: each mean is rounded. They are those of `refined` (law `refined-written` of accuracy).
+-- ---- the exact coordinates of one axis, as numerators over one divisor for all vertices
 
-unfoldable pub written : List Round → List ℤ → List ℤ
-written [] xs = xs
-written (r ∷ past) xs = map (rounded (written past xs)) r
-
--- ---- "The exact coordinate is the first mesh's, carried through the same rounds with no mean rounded. It is held as a whole numerator
--- over a whole divisor above 0, not necessarily in lowest terms": the numerators of all vertices are over one divisor
-
--- a common multiple of the divisors of a round: their product
+-- a common multiple of the divisors of a round: their product (rule 4.4)
 unfoldable pub common : Round → ℕ
 common [] = 1
 common (m ∷ r) = m .divisor * common r
 
+-- the one divisor of all exact coordinates after these rounds, the product of all (rule 4.4)
 unfoldable pub exactDivisor : List Round → ℕ
 exactDivisor [] = 1
 exactDivisor (r ∷ past) = common r * exactDivisor past
 
--- a mean of numerators over q, as a numerator over k q, where k is a multiple of the mean's divisor
+-- a mean of numerators over q, as a numerator over k q, where k is a multiple of the mean's divisor (rule 4.2)
 abbrev pub unrounded : ℕ → List ℤ → Mean → ℤ
 unrounded k ns m = pos (k / m .divisor) *ℤ total (m .draws) (coordinate ns)
 
+-- the numerators of the exact coordinates: the first mesh's, through the same rounds, with no mean rounded (rules 4.2 and 4.3)
 unfoldable pub exact : List Round → List ℤ → List ℤ
 exact [] xs = xs
 exact (r ∷ past) xs = map (unrounded (common r) (exact past xs)) r
 
--- ---- "Feeding" follows draws-on back through the rounds; a division feeds the coordinate it yields and every later one fed by it.
+-- ---- what feeds a coordinate
 
--- a division: the mean of `vertex` in the round that came after the rounds `past`
+-- the corners of the parents of the cells counted for a fine vertex: what it draws on (rule 4.5)
+unfoldable pub drawsOn : Topology → ℕ → List ℕ
+drawsOn t f =
+    let numbered = parts t in
+    let r = rank (split t) f in
+    concatMap
+    (λ (κ : Kind). concat (keep (λ (cell : List ℕ). eqb (dimension κ) r && any (has f) (children numbered κ cell)) (cellsOf t κ)))
+    kinds
+
+-- a division: that of a vertex, in the round that comes after so many others (rule 4.6)
 pub record Division : Type 0 where
-  pub past : List Round
-  pub mean : Mean
+  pub before : ℕ
   pub vertex : ℕ
 
--- the divisions that feed vertex v: its own, and those that feed a vertex it draws on
-unfoldable pub feeding : List Round → ℕ → List Division
-feeding [] v = []
-feeding (r ∷ past) v =
-    record { past = past; mean = meanOf r v; vertex = v } ∷ concatMap (λ (t : Draw). feeding past (t .vertex)) (meanOf r v .draws)
+-- the divisions that feed vertex v after some rounds: its own, and those that feed a vertex it draws on (rule 4.6)
+unfoldable pub feeding : ℕ → Topology → ℕ → List Division
+feeding zero t v = []
+feeding (suc k) t v = record { before = k; vertex = v } ∷ concatMap (feeding k t) (drawsOn (splitTimes k t) v)
 
--- what a division left, from the first mesh's coordinates xs
-abbrev pub left : List ℤ → Division → ℕ
-left xs d = remainder (written (d .past) xs) (d .mean)
+-- what a division leaves on axis a, made on written coordinates (rule 4.8)
+unfoldable pub left : Mesh → ℕ → Division → ℕ
+left m a d =
+    let coarse = refined (d .before) m in
+    remainder (axis a (coarse .vertices)) (meanOf (means (topology coarse)) (d .vertex))
 
--- no division left a remainder on that axis, at that vertex or at any earlier vertex feeding it
-abbrev pub NoRemainder : List Round → List ℤ → ℕ → Type 0
-NoRemainder rs xs v = Each (λ (d : Division). left xs d ≡ 0) (feeding rs v)
+-- some division that feeds the coordinate of vertex v on axis a leaves a remainder (rule 4.8)
+unfoldable pub hasRemainder : ℕ → Mesh → ℕ → ℕ → Bool
+hasRemainder k m a v = any (λ (d : Division). ltb 0 (left m a d)) (feeding k (topology m) v)
 
--- ---- the bounding box: "on each axis, from the least to the greatest coordinate of its vertices, both included"
+-- ---- the bounding box
 
+-- the lesser and the greater of two, and of the coordinates x ∷ xs (rule 4.10)
 abbrev pub lesser : ℤ → ℤ → ℤ
 lesser a b = cond (ltZ a b) a b
 
@@ -74,6 +84,7 @@ unfoldable pub greatestOf : ℤ → List ℤ → ℤ
 greatestOf x [] = x
 greatestOf x (y ∷ ys) = greater x (greatestOf y ys)
 
+-- the ends of the bounding box on an axis, both included (rule 4.10)
 unfoldable pub least : List ℤ → ℤ
 least [] = pos 0
 least (x ∷ xs) = leastOf x xs
@@ -81,3 +92,33 @@ least (x ∷ xs) = leastOf x xs
 unfoldable pub greatest : List ℤ → ℤ
 greatest [] = pos 0
 greatest (x ∷ xs) = greatestOf x xs
+
+-- in the box, both ends included (rule 4.10)
+abbrev pub inBox : List ℤ → ℤ → Bool
+inBox xs w = leZ (least xs) w && leZ w (greatest xs)
+
+-- ---- the third property
+
+-- The exact coordinate e / q and the written one w, after k rounds: equal exactly where no remainder feeds it; otherwise the written one is
+-- smaller, by less than k units. They are compared by cross-multiplying, with q above 0 (rules 4.4, 4.8 and 4.9).
+unfoldable pub accurate : Bool → ℕ → ℤ → ℕ → ℤ → Bool
+accurate fed k e q w =
+    ltb 0 q
+    && cond fed
+    (ltZ (pos q *ℤ w) e && ltZ e (pos q *ℤ (w +ℤ pos k)))
+    (leZ (pos q *ℤ w) e && leZ e (pos q *ℤ w))
+
+-- w, for the coordinate of vertex v on axis a after k rounds of the first mesh m: accurate, and in the box (rules 4.7 and 4.10)
+unfoldable pub accurateAt : ℕ → Mesh → ℕ → ℕ → ℤ → Bool
+accurateAt k m a v w =
+    let rs = roundsOf k (topology m) in
+    let xs = axis a (m .vertices) in
+    accurate (hasRemainder k m a v) k (coordinate (exact rs xs) v) (exactDivisor rs) w && inBox xs w
+
+-- `table` is a table of vertices after k rounds of the first mesh m: one truth value for each coordinate in it (rule 4.7)
+unfoldable pub accuracies : ℕ → Mesh → List ℤ → List Bool
+accuracies k m table = map (λ (p : ℕ). accurateAt k m (p % 3) (p / 3) (getD table p (pos 0))) (upFrom 0 (length table))
+
+-- the third property: each of them is true (rule 4.7)
+abbrev pub Property3 : ℕ → Mesh → List ℤ → Type 0
+Property3 k m table = accuracies k m table ≡ replicate (length table) true

@@ -1,4 +1,4 @@
--- Document 01, 'One round': the counts of a round and the finished counts; and the ranges of 'The mesh'.
+-- Section 5: the counts of a round, the finished counts and the ranges.
 use mathlib.Core.Bool.{Bool, _||_}
 use Prim.Native.Nat.{ℕ, zero, suc, _+_, _*_, _/_}
 use lib.ListN.{length}
@@ -8,8 +8,7 @@ use Rattle.rules.specs.declared.Sizes.{Sizes}
 use Rattle.rules.specs.Mesh.{Mesh, hex, quad, segment, point, corners, Topology}
 use Rattle.rules.specs.Split.{edges, faces}
 
--- A mesh has seven sizes: "V, E, F, H for vertices, edges, faces and hexes", and the quads, segments and points. "Hex faces shared by several
--- cells count once in F."
+-- the seven sizes of a mesh; an edge or face shared by several cells counts once (rule 5.1)
 unfoldable pub sizes : Topology → Sizes
 sizes t = record {
   vertices = t .vertexCount;
@@ -21,7 +20,7 @@ sizes t = record {
   points = length (t .points);
 }
 
--- "a round gives V+E+F+H vertices, 2E+4F+6H edges, 4F+12H faces, 8H hexes"; a quad has 4 children, a segment 2, a point 1
+-- the sizes after a round (rule 5.2)
 unfoldable pub nextSizes : Sizes → Sizes
 nextSizes s = record {
   vertices = s .vertices + (s .edges + (s .faces + s .hexes));
@@ -33,13 +32,14 @@ nextSizes s = record {
   points = s .points;
 }
 
+-- the sizes after n rounds (rule 5.3)
 unfoldable pub sizesAfter : ℕ → Sizes → Sizes
 sizesAfter zero s = s
 sizesAfter (suc n) s = sizesAfter n (nextSizes s)
 
 -- ---- the five counts
 
--- the counts of a mesh's tables; of lent tables, how many places they have
+-- the counts of a mesh's tables; of lent tables, how many places they have (rules 5.4 and 6.7)
 unfoldable pub countsOf : Mesh → Counts
 countsOf m = record {
   vertices = length (m .vertices) / 3;
@@ -49,19 +49,19 @@ countsOf m = record {
   points = length (m .points) / corners point;
 }
 
--- the five counts among the sizes
+-- the five counts among the sizes (rule 5.3)
 unfoldable pub countsIn : Sizes → Counts
 countsIn s = record { vertices = s .vertices; hexes = s .hexes; quads = s .quads; segments = s .segments; points = s .points }
 
--- the finished counts, known before any round
+-- the finished counts, known before any round (rule 5.3)
 unfoldable pub finishedCounts : ℕ → Topology → Counts
 finishedCounts n t = countsIn (sizesAfter n (sizes t))
 
--- a refusal's zero counts
+-- a refusal's zero counts (rule 6.3)
 abbrev pub noCounts : Counts
 noCounts = record { vertices = 0; hexes = 0; quads = 0; segments = 0; points = 0 }
 
--- "There are 1 to 1,000,000 vertices and at most 250,000 entries in each cell table."
+-- five counts are out of range (rules 1.4 and 5.5)
 unfoldable pub outOfRange : Counts → Bool
 outOfRange c =
     eqb (c .vertices) 0
@@ -71,7 +71,7 @@ outOfRange c =
     || (ltb 250_000 (c .segments)
     || ltb 250_000 (c .points)))))
 
--- some table has fewer places than are needed
+-- some table has fewer places than are needed (rule 7.11)
 unfoldable pub fewer : Counts → Counts → Bool
 fewer lent needed =
     ltb (lent .vertices) (needed .vertices)

@@ -32,16 +32,16 @@ module _ {A : Type 0} where
   concat [] = []
   concat (x ∷ xs) = x ++ concat xs
 
-  -- the first n entries of a flat table, k elements each
+  -- the first n entries of a flat table, k elements each (rule 1.1)
   unfoldable pub entries : ℕ → ℕ → List A → List (List A)
   entries k zero xs = []
   entries k (suc n) xs = take k xs ∷ entries k n (drop k xs)
 
-  -- the entries of a flat table; a partial one at its end is left out
+  -- the entries of a flat table; numbers behind the last whole entry belong to none (rule 5.4)
   unfoldable pub cut : ℕ → List A → List (List A)
   cut k xs = entries k (length xs / k) xs
 
-  -- A buffer after `new` is stored at its front: the unused rest is unchanged.
+  -- a buffer after `new` is stored at its front: the unused rest is unchanged (rule 6.4)
   unfoldable pub overwritten : List A → List A → List A
   overwritten old new = new ++ drop (length new) old
 
@@ -55,38 +55,39 @@ unfoldable pub upFrom : ℕ → ℕ → List ℕ
 upFrom start zero = []
 upFrom start (suc n) = start ∷ upFrom (suc start) n
 
--- is x in the list
+-- is x in the list: the cell holds the vertex (rule 1.3)
 unfoldable pub has : ℕ → List ℕ → Bool
 has x ys = any (eqb x) ys
 
 -- ---- sets of corners
 
--- A set of corners, as the list of its members in ascending order: the key of an edge, of a face, of a cell.
+-- a set of corners, as the list of its members in rising order: what tells edges, faces and cells apart (rule 1.10)
 abbrev pub Key : Type 0
 Key = List ℕ
 
+-- a number put into a rising list, at its place
 unfoldable pub insert : ℕ → List ℕ → List ℕ
 insert x [] = x ∷ []
 insert x (y ∷ ys) = let r = insert x ys in cond (leb x y) (x ∷ y ∷ ys) (y ∷ r)
 
--- the key of some corners, in whatever order they stand
+-- the key of some corners, in whatever order they stand; a corner named twice is in it twice (rule 1.10)
 unfoldable pub keyOf : List ℕ → Key
 keyOf [] = []
 keyOf (x ∷ xs) = insert x (keyOf xs)
 
--- two keys are equal
+-- two keys are equal (rule 1.10)
 unfoldable pub same : Key → Key → Bool
 same [] [] = true
 same [] (y ∷ ys) = false
 same (x ∷ xs) [] = false
 same (x ∷ xs) (y ∷ ys) = let r = same xs ys in eqb x y && r
 
--- the place of the first k in a list; the list's length if k is not in it
+-- the place of the first k in a list; the list's length if k is not in it (rule 2.2)
 unfoldable pub indexOf : Key → List Key → ℕ
 indexOf k [] = zero
 indexOf k (x ∷ xs) = let r = indexOf k xs in cond (same k x) zero (suc r)
 
--- the list after k is met: k goes to its end unless it is in it
+-- the list after k is met: k goes to its end unless it is in it (rule 2.2)
 unfoldable pub meet : List Key → Key → List Key
 meet [] k = k ∷ []
 meet (x ∷ xs) k = let r = meet xs k in cond (same k x) (x ∷ xs) (x ∷ r)
@@ -95,6 +96,6 @@ unfoldable pub meetAll : List Key → List Key → List Key
 meetAll known [] = known
 meetAll known (k ∷ ks) = meetAll (meet known k) ks
 
--- each key once, in the order first met
+-- each key once, in the order first met (rule 2.2)
 unfoldable pub distinct : List Key → List Key
 distinct ks = meetAll [] ks

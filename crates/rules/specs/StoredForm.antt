@@ -1,8 +1,8 @@
--- Document 01, 'Stored form', with the refusals 13 to 16: a mesh as bytes, reading and writing.
+-- Section 8, with the refusals 13 to 16: a mesh as bytes, reading and writing (rules 9.4 to 9.9) and the counts in a header (rule 9.14).
 use mathlib.Core.Bool.{Bool, not, cond}
 use mathlib.Core.List.{List, [], _∷_, _++_, map}
 use Prim.Native.Nat.{ℕ, _+_, _-_, _*_, _%_, _^_}
-use lib.ListN.{length}
+use lib.ListN.{length, getD}
 use lib.IntN.{ℤ, pos, negsuc}
 use lib.Dec.{ltb, eqb}
 use Rattle.rules.specs.declared.Counts.{Counts}
@@ -14,8 +14,9 @@ use Rattle.rules.specs.Refusals.{check, cornerOutOfRange, tableChecks}
 use Rattle.rules.specs.EntryPoints.{countsAnswer, countAnswer, resultBuffer, resultTables}
 use Rattle.rules.specs.Bits.{number, fieldAt, tableAt, Field, bytesFor, filling, encode, widthOf}
 
--- ---- coordinates: "30 each, two's complement"
+-- ---- coordinates
 
+-- a coordinate as 30 bits in two's complement, and back (rule 8.3)
 unfoldable pub toField : ℤ → ℕ
 toField (pos n) = n
 toField (negsuc n) = 2 ^ 30 - (n + 1)
@@ -23,40 +24,47 @@ toField (negsuc n) = 2 ^ 30 - (n + 1)
 unfoldable pub ofField : ℕ → ℤ
 ofField v = cond (ltb v (2 ^ 29)) (pos v) (negsuc (2 ^ 30 - (v + 1)))
 
--- ---- the form: "form number (4 bits, 1), index width w (5), counts of vertices (20), hexes, quads, segments, points (18 each)"
+-- ---- the form
 
+-- the header: form number, index width, five counts (rule 8.2)
 pub record Header : Type 0 where
   pub form : ℕ
   pub width : ℕ
   pub counts : Counts
 
+-- the form number (rule 8.2)
 abbrev pub formNumber : ℕ
 formNumber = 1
 
+-- a field of k bits (rule 8.1)
 abbrev pub field : ℕ → ℕ → Field
 field k v = record { width = k; value = v }
 
--- a table of which each number takes w bits
+-- a table of which each number takes w bits (rule 8.2)
 unfoldable pub tableFields : ℕ → List ℕ → List Field
 tableFields w table = map (field w) table
 
+-- the widths of the header's seven fields (rule 8.2)
+abbrev pub headerWidths : List ℕ
+headerWidths = 4 ∷ 5 ∷ 20 ∷ 18 ∷ 18 ∷ 18 ∷ 18 ∷ []
+
+-- fields of some widths that hold some values, one after another (rule 8.1)
+abbrev pub fieldsOf : List ℕ → List ℕ → List Field
+fieldsOf [] vs = []
+fieldsOf (k ∷ ks) [] = []
+fieldsOf (k ∷ ks) (v ∷ vs) = field k v ∷ fieldsOf ks vs
+
+-- the seven fields of the header, 101 bits (rule 8.2)
 unfoldable pub headerFields : Header → List Field
 headerFields h =
     let c = h .counts in
-    field 4 (h .form)
-    ∷ field 5 (h .width)
-    ∷ field 20 (c .vertices)
-    ∷ field 18 (c .hexes)
-    ∷ field 18 (c .quads)
-    ∷ field 18 (c .segments)
-    ∷ field 18 (c .points)
-    ∷ []
+    fieldsOf headerWidths (h .form ∷ h .width ∷ c .vertices ∷ c .hexes ∷ c .quads ∷ c .segments ∷ c .points ∷ [])
 
--- the width that so many vertices call for
+-- the width that so many vertices call for (rule 8.5)
 unfoldable pub indexWidth : Counts → ℕ
 indexWidth c = widthOf (c .vertices - 1)
 
--- "then coordinates (30 each, two's complement, axes in the order 1, 2, 3); then hex, quad, segment and point corners, w bits each"
+-- header, coordinates by vertex and axis, then the corners of hexes, quads, segments and points (rule 8.2)
 unfoldable pub meshFields : Mesh → List Field
 meshFields m =
     let c = countsOf m in
@@ -68,25 +76,33 @@ meshFields m =
     ++ (tableFields w (m .segments)
     ++ tableFields w (m .points)))))
 
+-- the stored form of a mesh (rules 8.2 and 8.6)
 unfoldable pub storedForm : Mesh → List ℕ
 storedForm m = encode (meshFields m)
 
 -- ---- what stands in a file
 
-unfoldable pub headerOf : List ℕ → Header
-headerOf s = record {
-  form = fieldAt s 0 4;
-  width = fieldAt s 4 5;
-  counts = record {
-    vertices = fieldAt s 9 20;
-    hexes = fieldAt s 29 18;
-    quads = fieldAt s 47 18;
-    segments = fieldAt s 65 18;
-    points = fieldAt s 83 18;
-  };
-}
+-- the values of fields of some widths from bit p on (rule 8.1)
+abbrev pub valuesAt : List ℕ → ℕ → List ℕ → List ℕ
+valuesAt s p [] = []
+valuesAt s p (k ∷ ks) = fieldAt s p k ∷ valuesAt s (p + k) ks
 
--- where the coordinates, and the corners of each kind, begin, and the bit behind the last, by the header
+-- the header that stands in a file (rule 8.2)
+unfoldable pub headerOf : List ℕ → Header
+headerOf s =
+    let at : ℕ → ℕ = λ i. getD (valuesAt s 0 headerWidths) i 0 in
+    record {
+      form = at 0;
+      width = at 1;
+      counts = record { vertices = at 2; hexes = at 3; quads = at 4; segments = at 5; points = at 6 };
+    }
+
+-- how many bits fields of some widths take (rule 8.1)
+abbrev pub sum : List ℕ → ℕ
+sum [] = 0
+sum (k ∷ ks) = k + sum ks
+
+-- where the coordinates, and the corners of each kind, begin, and the bit behind the last, by the header (rule 8.2)
 pub record Layout : Type 0 where
   pub vertices : ℕ
   pub hexes : ℕ
@@ -99,13 +115,14 @@ unfoldable pub layout : Header → Layout
 layout h =
     let w = h .width in
     let c = h .counts in
-    let vertices : ℕ = 101 in
+    let vertices = sum headerWidths in
     let hexes = vertices + 30 * (3 * c .vertices) in
     let quads = hexes + w * (8 * c .hexes) in
     let segments = quads + w * (4 * c .quads) in
     let points = segments + w * (2 * c .segments) in
     record { vertices = vertices; hexes = hexes; quads = quads; segments = segments; points = points; end = points + w * c .points }
 
+-- the mesh that stands in a file (rules 8.2 to 8.4)
 unfoldable pub storedMesh : List ℕ → Mesh
 storedMesh s =
     let h = headerOf s in
@@ -122,52 +139,65 @@ storedMesh s =
 
 -- ---- 13 to 16
 
--- 13, document 01: wrong length. "the file is under 13 bytes, or not the length its header calls for"
+-- 13, wrong file length (trade: wrong length), first condition: under 13 bytes (rule 7.13)
 unfoldable pub headerCut : List ℕ → Bool
 headerCut s = ltb (length s) 13
 
+-- 13, second condition: not the length that the header calls for (rule 7.13)
 unfoldable pub wrongLength : List ℕ → Bool
 wrongLength s = not (eqb (length s) (bytesFor (layout (headerOf s) .end)))
 
--- 14, document 01: unknown form. "the form number is not 1"
+-- 14, unknown form: the form number is another (rule 7.14)
 unfoldable pub unknownForm : List ℕ → Bool
 unknownForm s = not (eqb (headerOf s .form) formNumber)
 
--- 15, document 01: wrong width. "w is not the width above"
+-- 15, wrong index width (trade: wrong width) (rule 7.15)
 unfoldable pub wrongWidth : List ℕ → Bool
 wrongWidth s = not (eqb (headerOf s .width) (indexWidth (headerOf s .counts)))
 
--- 16, document 01: spare bits. "a filling bit is 1"
+-- 16, nonzero padding (trade: spare bits): a filling bit is 1 (rule 7.16)
 unfoldable pub spareBits : List ℕ → Bool
 spareBits s = not (eqb (number s % 2 ^ filling (layout (headerOf s) .end)) 0)
 
 -- ---- reading
 
--- "Reading checks 13 (under 13 bytes), 14, 2, 15, 13 (whole length), 16, 4, 11."
-unfoldable pub readingRefusal : List ℕ → Counts → ℕ
-readingRefusal s lent =
+-- the header's own checks, without its width: 13, 14, 2, and then what the later checks say (rules 9.4 and 9.14)
+abbrev pub headerChecks : List ℕ → ℕ → ℕ
+headerChecks s later =
     check (headerCut s) 13
     (check (unknownForm s) 14
-    (check (outOfRange (headerOf s .counts)) 2
+    (check (outOfRange (headerOf s .counts)) 2 later))
+
+-- reading's checks in their order: 13, 14, 2, 15, 13, 16, 4, 11 (rule 9.4)
+unfoldable pub readingRefusal : List ℕ → Counts → ℕ
+readingRefusal s lent =
+    headerChecks s
     (check (wrongWidth s) 15
     (check (wrongLength s) 13
     (check (spareBits s) 16
     (check (cornerOutOfRange (topology (storedMesh s))) 4
-    (check (fewer lent (headerOf s .counts)) 11 0)))))))
+    (check (fewer lent (headerOf s .counts)) 11 0)))))
 
+-- the header's counts; the mesh at the fronts of the lent tables (rule 9.5)
 unfoldable pub readingAnswer : List ℕ → Mesh → CountsAnswer
 readingAnswer s tables = countsAnswer (readingRefusal s (countsOf tables)) (headerOf s .counts)
 
 unfoldable pub readingOutput : List ℕ → Mesh → Mesh
 readingOutput s tables = resultTables (readingRefusal s (countsOf tables)) tables (storedMesh s)
 
+-- ---- the counts in a header
+
+-- 13 for under 13 bytes, 14, 2, and the header's counts; nothing else of the file is looked at (rule 9.14)
+unfoldable pub headerAnswer : List ℕ → CountsAnswer
+headerAnswer s = countsAnswer (headerChecks s 0) (headerOf s .counts)
+
 -- ---- writing
 
--- "Writing checks 1 to 4, then 11."
+-- writing's checks: 1 to 4, then 11 (rule 9.6)
 unfoldable pub writingRefusal : Mesh → ℕ → ℕ
 writingRefusal m lent = tableChecks m (check (ltb lent (length (storedForm m))) 11 0)
 
--- "writing [answers] with its count of bytes"
+-- the count of bytes; the stored form at the front of the buffer (rule 9.7)
 unfoldable pub writingAnswer : Mesh → List ℕ → CountAnswer
 writingAnswer m buffer = countAnswer (writingRefusal m (length buffer)) (length (storedForm m))
 

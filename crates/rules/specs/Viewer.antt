@@ -1,4 +1,4 @@
--- Document 01, 'Lent memory', last paragraph: the C viewer's calls, "with numbers and byte slices, meshes in the stored form".
+-- Calls on stored meshes, with tables of fixed sizes: numbers and bytes in, one number out (rules 9.15 to 9.17).
 use mathlib.Core.List.{List}
 use Prim.Native.Nat.{ℕ, zero, suc, _*_}
 use lib.ListN.{length}
@@ -10,46 +10,49 @@ use Rattle.rules.specs.Refusals.{meshChecks}
 use Rattle.rules.specs.EntryPoints.{Lent, resultBuffer, refiningRefusal, irregularCount}
 use Rattle.rules.specs.StoredForm.{readingRefusal, storedMesh, writingRefusal, storedForm}
 
--- "On this path the table sizes are those of the listing program": "Its tables take 1,000 vertices and 256 cells of each kind."
+-- the fixed sizes (rule 9.15)
 abbrev pub fixedCounts : Counts
 fixedCounts = record { vertices = 1_000; hexes = 256; quads = 256; segments = 256; points = 256 }
 
--- what refining is lent: tables of those sizes
+-- what refining is lent: tables of those sizes, 8 and 3 working numbers a vertex (rule 9.15)
 abbrev pub fixedLent : Lent
 fixedLent = record { output = fixedCounts; working = fixedCounts; words = 8 * 1_000; longs = 3 * 1_000 }
 
--- what the later checks say of the mesh that was read, and else reading's refusal
+-- what the later checks say of the mesh that was read, and else reading's refusal (rule 6.2)
 abbrev pub andThen : ℕ → ℕ → ℕ
 andThen zero later = later
 andThen (suc n) later = suc n
 
--- "it makes reading's checks, then refining's", with tables of the fixed sizes
+-- reading's checks, then refining's, with tables of the fixed sizes (rules 9.16 and 10.2)
 unfoldable pub storedRefiningRefusal : List ℕ → ℕ → ℕ
 storedRefiningRefusal s rounds =
     andThen (readingRefusal s fixedCounts) (refiningRefusal (storedMesh s) rounds fixedLent)
 
--- "a refusal is one number too, the refusal number below zero"
+-- a count, or minus the refusal number (rule 9.15)
 abbrev pub signed : ℕ → ℕ → ℤ
 signed zero count = pos count
 signed (suc n) count = negsuc n
 
--- ---- refining: "a stored mesh, the rounds and a result buffer; it makes reading's checks, then refining's, then writing's"
+-- ---- refining
 
+-- reading's checks, then refining's, then writing's (rule 9.16)
 unfoldable pub viewerRefusal : List ℕ → ℕ → ℕ → ℕ
 viewerRefusal s rounds lent =
     andThen (storedRefiningRefusal s rounds) (writingRefusal (refined rounds (storedMesh s)) lent)
 
--- "and answers with writing's count of bytes"
+-- writing's count of bytes (rule 9.16)
 unfoldable pub viewerAnswer : List ℕ → ℕ → List ℕ → ℤ
 viewerAnswer s rounds buffer =
     signed (viewerRefusal s rounds (length buffer)) (length (storedForm (refined rounds (storedMesh s))))
 
+-- the finished stored mesh at the front of the buffer (rule 9.16)
 unfoldable pub viewerOutput : List ℕ → ℕ → List ℕ → List ℕ
 viewerOutput s rounds buffer =
     resultBuffer (viewerRefusal s rounds (length buffer)) buffer (storedForm (refined rounds (storedMesh s)))
 
 -- ---- the irregular count of a stored mesh
 
+-- the irregular count of a stored mesh (rule 9.17)
 unfoldable pub viewerIrregularCount : List ℕ → ℤ
 viewerIrregularCount s =
     signed (andThen (readingRefusal s fixedCounts) (meshChecks (storedMesh s) 0)) (irregularCount (topology (storedMesh s)))

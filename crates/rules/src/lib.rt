@@ -1,4 +1,4 @@
-// Document 01 as definitions (specs/), the answers that its entry points give, and its constant tables.
+// docs/SPECIFICATION.md as definitions (specs/), the answers that the entry points give, and the constant tables.
 
 // The counts of a mesh's five tables.
 #[repr(C)]

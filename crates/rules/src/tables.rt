@@ -1,5 +1,5 @@
-// Document 01's constant tables: edges, faces, and the smallest part for two corners. Each is tested as a whole against the rules by one
-// computed claim. Their entries are bytes: a table is copied where it is read, and bytes make that a few stores.
+// The constant tables: edges, faces (rules 1.7 to 1.9), and the smallest part for two corners (rules 2.7, 2.8). Each is tested as a whole
+// against the rules by one computed claim. Their entries are bytes: a table is copied where it is read, and bytes make that a few stores.
 ghost use mathlib.Core.Path.{_≡_};
 ghost use Prim.Native.Nat.{_<_};
 ghost use Rattle.rules.specs.Mesh.{hex, quad, segment, hexEdges, hexFaces, quadEdges, placeOf, smallestTable};

@@ -12,6 +12,7 @@ use Rattle.rules.specs.Averaging.{refined}
 use Rattle.rules.specs.Counts.{sizes, nextSizes, sizesAfter, countsIn, countsOf, finishedCounts, outOfRange}
 use Rattle.rules.specs.Refusals.{partialEntry, countOutOfRange, outside, coordinateOutOfRange, cornerOutOfRange, repeatedCorner, duplicateCell, ring, mismatched, mismatchedFace, isolatedVertex, tooLarge, tableChecks, meshChecks}
 use Rattle.soundness.specs.Accepted.{Accepted}
+use Rattle.soundness.specs.Across.{across}
 use Rattle.soundness.proofs.Checks.{checks-accept}
 use Rattle.soundness.proofs.Rounds.{refined-counts, refined-accepted}
 
@@ -40,3 +41,8 @@ not-large = refl
 
 pub sample-again : coordinateOutOfRange (refined 2 sample) ≡ false → Accepted (refined 2 sample)
 sample-again h = refined-accepted 2 sample sample-accepted not-large h
+
+-- two faces of one corner set, told apart: 2 is across 0 in the one, and 1 in the other
+pub sample-across : (across (0 ∷ 1 ∷ 2 ∷ 3 ∷ []) ≡ 2) × (across (0 ∷ 2 ∷ 1 ∷ 3 ∷ []) ≡ 1)
+unfolding across
+sample-across = (refl, refl)

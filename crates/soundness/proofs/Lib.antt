@@ -27,3 +27,5 @@ pub mod Opposite
 pub mod Across
 -- A mesh with cells of each kind, to which the laws apply.
 pub mod Instance
+-- A topology for each of checks 4 to 8 that is not sound.
+pub mod Unsound

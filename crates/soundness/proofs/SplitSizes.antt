@@ -1,4 +1,4 @@
--- The sizes of a split: "a round gives V+E+F+H vertices, 2E+4F+6H edges, 4F+12H faces, 8H hexes". Sizes never fall. Assumes nothing.
+-- The sizes of a split are those of rule 5.2, and sizes never fall. Assumes nothing.
 use mathlib.Core.Path.{_≡_, refl, sym, ap, _∙_, subst}
 use mathlib.Core.Logic.{inl, inr}
 use mathlib.Core.List.{_++_}

@@ -1,4 +1,4 @@
--- A mesh that passes checks 1 to 8, with checks 4 to 8 as statements.
+-- Words of inner contracts: a mesh that passes checks 1 to 8, with checks 4 to 8 as statements.
 use mathlib.Core.Path.{_≡_}
 use mathlib.Core.Bool.{false}
 use Rattle.rules.specs.Mesh.{Mesh, topology}

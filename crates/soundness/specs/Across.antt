@@ -1,4 +1,4 @@
--- One number that tells two faces of one corner set apart: the corner across the least one.
+-- Words of inner contracts: one number that tells two faces of one corner set apart: the corner across the least one.
 use mathlib.Core.Bool.{cond}
 use mathlib.Core.List.{List}
 use Prim.Native.Nat.{ℕ}

@@ -1,4 +1,4 @@
--- Sizes and counts, compared with each other and with the ranges.
+-- Words of inner contracts: sizes and counts, compared with each other and with the ranges.
 use Prim.Native.Nat.{_<_, _≤_}
 use Rattle.rules.specs.declared.Counts.{Counts}
 use Rattle.rules.specs.declared.Sizes.{Sizes}
@@ -13,7 +13,7 @@ pub record AtMost (a b : Sizes) : Type 0 where
   pub segments : a .segments ≤ b .segments
   pub points : a .points ≤ b .points
 
--- "There are 1 to 1,000,000 vertices and at most 250,000 entries in each cell table."
+-- The counts are in their ranges (rule 1.4 of docs/SPECIFICATION.md).
 pub record InRange (c : Counts) : Type 0 where
   pub some : 0 < c .vertices
   pub vertices : c .vertices ≤ 1_000_000

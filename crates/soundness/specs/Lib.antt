@@ -1,4 +1,4 @@
--- Statements about meshes that pass the checks.
+-- Words of inner contracts: statements about meshes that pass the checks.
 -- Sound: what checks 4 to 8 let through.
 pub mod Sound
 -- Where the numbers of the fine vertices start.

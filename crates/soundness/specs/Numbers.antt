@@ -1,4 +1,4 @@
--- Where the numbers of the fine vertices start, part by part.
+-- Words of inner contracts: where the numbers of the fine vertices start, part by part.
 use mathlib.Core.List.{List}
 use Prim.Native.Nat.{ℕ, zero, suc, _+_}
 use lib.ListN.{length}
@@ -6,7 +6,7 @@ use Rattle.rules.specs.Lists.{indexOf}
 use Rattle.rules.specs.Mesh.{Topology}
 use Rattle.rules.specs.Split.{keyAt, distinctParts, edges, faces}
 
--- The number of the first fine vertex of dimension d: "old vertices under their old numbers; then edges; then faces; then hexes".
+-- The number of the first fine vertex of dimension d: old vertices, then edges, faces, hexes (rule 2.3 of docs/SPECIFICATION.md).
 abbrev pub start : Topology → ℕ → ℕ
 start t zero = 0
 start t (suc zero) = t .vertexCount

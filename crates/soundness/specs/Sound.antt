@@ -1,4 +1,4 @@
--- A sound topology: what document 01's checks 4 to 8 let through, as statements.
+-- Words of inner contracts: a sound topology, what checks 4 to 8 let through, as statements (rules 7.4 to 7.8 of docs/SPECIFICATION.md).
 use mathlib.Core.Path.{_≡_}
 use mathlib.Core.List.{List, map}
 use Prim.Native.Nat.{ℕ, _<_}

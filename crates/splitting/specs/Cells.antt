@@ -1,4 +1,4 @@
--- The numbers of a cell's parts, and its children's corners from them.
+-- Words of inner contracts: the numbers of a cell's parts, and its children's corners from them.
 use mathlib.Core.List.{List, [], _∷_, _++_, map}
 use Prim.Native.Nat.{ℕ, _+_}
 use lib.ListN.{getD}

@@ -1,4 +1,4 @@
--- The kinds of cells that are split, in the words of the rules and of the numbering.
+-- Words of inner contracts: the kinds of cells that are split, in the words of the rules and of the numbering.
 use mathlib.Core.Path.{_≡_}
 use mathlib.Core.List.{List}
 use Prim.Native.Nat.{ℕ}

@@ -1,4 +1,4 @@
--- What the contracts of the split cite.
+-- Words of inner contracts: what the contracts of the split cite.
 -- Kinds: the kinds of cells that are split.
 pub mod Kinds
 -- Cells: the numbers of a cell's parts, and its children's corners from them.

@@ -1,4 +1,4 @@
--- What splitting a mesh asks of its caller.
+-- Words of inner contracts: what splitting a mesh asks of its caller.
 use mathlib.Core.Path.{_≡_}
 use Prim.Native.Nat.{ℕ, _+_, _*_, _/_, _^_, _≤_, _<_}
 use lib.ListN.{length}

@@ -1,4 +1,4 @@
--- The two tables in the lent words, of the edges and of the faces, while cells are walked.
+-- Words of inner contracts: the two tables in the lent words, of the edges and of the faces, while cells are walked.
 use mathlib.Core.Path.{_≡_}
 use mathlib.Core.List.{List, _++_}
 use Prim.Native.Nat.{ℕ, _+_, _*_, _≤_}

@@ -1,4 +1,4 @@
-// One round's fine cells: document 01, 'Split'.
+// One round's fine cells (section 2 of docs/SPECIFICATION.md).
 // Rests on `rules` (what a split is), `soundness` (the numbers of the fine vertices), `numbering` (edges and faces in the order first met).
 // Promises: each table of children is that of the rules, at the front of the lent table; the rest of it is unchanged.
 use cells::Base;

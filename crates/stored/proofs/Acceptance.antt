@@ -14,11 +14,11 @@ use Rattle.rules.specs.Counts.{countsOf, outOfRange, fewer}
 use Rattle.rules.specs.Refusals.{check, partialEntry, countOutOfRange, outside, coordinateOutOfRange, cornerOutOfRange, tableChecks}
 use Rattle.rules.specs.EntryPoints.{countsAnswer, resultTables}
 use Rattle.rules.specs.Bits.{number, bytesFor, filling}
-use Rattle.rules.specs.StoredForm.{headerOf, indexWidth, layout, storedMesh, headerCut, unknownForm, wrongWidth, wrongLength, spareBits, readingRefusal}
+use Rattle.rules.specs.StoredForm.{headerOf, indexWidth, layout, storedMesh, headerCut, unknownForm, wrongWidth, wrongLength, spareBits, headerChecks, readingRefusal}
 use Rattle.checks.proofs.Passed.{TablesPass, tables-pass}
 use Rattle.stored.specs.declared.header.Head.the-variants as H
 use Rattle.stored.specs.Form.{headerFor}
-use Rattle.stored.specs.Reading.{headOf, answerOf, headerChecks, bodyChecks, fileChecks}
+use Rattle.stored.specs.Reading.{headOf, answerOf, wholeHeaderChecks, bodyChecks, fileChecks}
 
 -- ---- checks in a row
 
@@ -39,9 +39,28 @@ three-checks false true c x y z later = refl
 three-checks false false true x y z later = refl
 three-checks false false false x y z later = refl
 
-pub header-later : (s : List ℕ) (later : ℕ) → headerChecks s later ≡ orLater (headerChecks s 0) later
-unfolding headerChecks
-header-later s later = three-checks (unknownForm s) (outOfRange (headerOf s .counts)) (wrongWidth s) 13 1 14 later
+-- rows of checks, one behind another
+then-later : (a b later : ℕ) → orLater a (orLater b later) ≡ orLater (orLater a b) later
+then-later zero b later = refl
+then-later (suc a) b later = refl
+
+counts-later : (s : List ℕ) (later : ℕ) → headerChecks s later ≡ orLater (headerChecks s 0) later
+counts-later s later = three-checks (headerCut s) (unknownForm s) (outOfRange (headerOf s .counts)) 12 13 1 later
+
+-- one check, and what the later ones say
+check-later : (b : Bool) (n later : ℕ) → check b (suc n) later ≡ orLater (check b (suc n) 0) later
+check-later true n later = refl
+check-later false n later = refl
+
+pub whole-header : (s : List ℕ) (later : ℕ) → wholeHeaderChecks s later ≡ orLater (headerChecks s 0) (orLater (check (wrongWidth s) 15 0) later)
+unfolding wholeHeaderChecks
+whole-header s later = counts-later s _ ∙ ap (orLater (headerChecks s 0)) (check-later (wrongWidth s) 14 later)
+
+header-later : (s : List ℕ) (later : ℕ) → wholeHeaderChecks s later ≡ orLater (wholeHeaderChecks s 0) later
+unfolding wholeHeaderChecks
+header-later s later =
+    whole-header s later ∙ then-later (headerChecks s 0) (check (wrongWidth s) 15 0) later
+    ∙ ap (λ (n : ℕ). orLater n later) (sym (counts-later s (check (wrongWidth s) 15 0)))
 
 body-later : (s : List ℕ) (later : ℕ) → bodyChecks s later ≡ orLater (bodyChecks s 0) later
 unfolding bodyChecks
@@ -51,15 +70,10 @@ pub file-later : (s : List ℕ) (later : ℕ) → fileChecks s later ≡ orLater
 unfolding fileChecks
 file-later s later =
     rw (header-later s (bodyChecks s later), header-later s (bodyChecks s 0), body-later s later)
-    (go (headerCut s) (headerChecks s 0) (bodyChecks s 0))
-  where
-    go : (b : Bool) (h n : ℕ) → check b 13 (orLater h (orLater n later)) ≡ orLater (check b 13 (orLater h n)) later
-    go true h n = refl
-    go false zero n = refl
-    go false (suc h) n = refl
+    (then-later (wholeHeaderChecks s 0) (bodyChecks s 0) later)
 
 pub reading-later : (s : List ℕ) (lent : Counts) → readingRefusal s lent ≡ orLater (fileChecks s 0) (check (fewer lent (headerOf s .counts)) 11 0)
-unfolding readingRefusal fileChecks headerChecks bodyChecks
+unfolding readingRefusal fileChecks wholeHeaderChecks bodyChecks
 reading-later s lent = file-later s (check (fewer lent (headerOf s .counts)) 11 0)
 
 -- ---- answers
@@ -86,6 +100,7 @@ refused-tables (suc n) k c old new e = refl
 -- ---- an accepted file
 
 pub record HeaderAccepted (s : List ℕ) : Type 0 where
+  pub long : 13 ≤ length s
   pub range : outOfRange (headerOf s .counts) ≡ false
   pub header : headerOf s ≡ headerFor (headerOf s .counts)
 
@@ -95,20 +110,32 @@ pub record BodyAccepted (s : List ℕ) : Type 0 where
   pub corners : cornerOutOfRange (topology (storedMesh s)) ≡ false
 
 pub record Accepted (s : List ℕ) : Type 0 where
-  pub long : 13 ≤ length s
   pub head : HeaderAccepted s
   pub body : BodyAccepted s
 
-pub header-accepted : (s : List ℕ) (later : ℕ) → headerChecks s later ≡ 0 → HeaderAccepted s × (later ≡ 0)
-unfolding headerChecks unknownForm wrongWidth
+-- what the checks without the width tell
+pub record CountsAccepted (s : List ℕ) : Type 0 where
+  pub long : 13 ≤ length s
+  pub form : headerOf s .form ≡ 1
+  pub range : outOfRange (headerOf s .counts) ≡ false
+
+pub counts-accepted : (s : List ℕ) (later : ℕ) → headerChecks s later ≡ 0 → CountsAccepted s × (later ≡ 0)
+unfolding headerCut unknownForm
+counts-accepted s later e =
+    let h = headerOf s in
+    let a = passes (ltb (length s) 13) 13 _ (omega arith) e in
+    let b = passes (not (eqb (h .form) 1)) 14 _ (omega arith) (a .1) in
+    let c = passes (outOfRange (h .counts)) 2 later (omega arith) (b .1) in
+    (record { long = ltb-false (length s) 13 (a .0); form = eqb-true (h .form) 1 (not-false _ (b .0)); range = c .0 }, c .1)
+
+pub header-accepted : (s : List ℕ) (later : ℕ) → wholeHeaderChecks s later ≡ 0 → HeaderAccepted s × (later ≡ 0)
+unfolding wholeHeaderChecks wrongWidth
 header-accepted s later e =
     let h = headerOf s in
-    let a = passes (not (eqb (h .form) 1)) 14 _ (omega arith) e in
-    let b = passes (outOfRange (h .counts)) 2 _ (omega arith) (a .1) in
-    let c = passes (not (eqb (h .width) (indexWidth (h .counts)))) 15 later (omega arith) (b .1) in
-    let form : h .form ≡ 1 = eqb-true (h .form) 1 (not-false _ (a .0)) in
-    let width : h .width ≡ indexWidth (h .counts) = eqb-true (h .width) (indexWidth (h .counts)) (not-false _ (c .0)) in
-    (record { range = b .0; header = λ i. record { form = form i; width = width i; counts = h .counts } }, c .1)
+    let a = counts-accepted s _ e in
+    let b = passes (not (eqb (h .width) (indexWidth (h .counts)))) 15 later (omega arith) (a .1) in
+    let width : h .width ≡ indexWidth (h .counts) = eqb-true (h .width) (indexWidth (h .counts)) (not-false _ (b .0)) in
+    (record { long = a .0 .long; range = a .0 .range; header = λ i. record { form = a .0 .form i; width = width i; counts = h .counts } }, b .1)
 
 body-accepted : (s : List ℕ) (later : ℕ) → bodyChecks s later ≡ 0 → BodyAccepted s × (later ≡ 0)
 unfolding bodyChecks wrongLength spareBits
@@ -126,20 +153,19 @@ body-accepted s later e =
     )
 
 pub accepted : (s : List ℕ) (later : ℕ) → fileChecks s later ≡ 0 → Accepted s × (later ≡ 0)
-unfolding fileChecks headerCut
+unfolding fileChecks
 accepted s later e =
-    let a = passes (ltb (length s) 13) 13 _ (omega arith) e in
-    let b = header-accepted s (bodyChecks s later) (a .1) in
-    let c = body-accepted s later (b .1) in
-    (record { long = ltb-false (length s) 13 (a .0); head = b .0; body = c .0 }, c .1)
+    let a = header-accepted s (bodyChecks s later) e in
+    let b = body-accepted s later (a .1) in
+    (record { head = a .0; body = b .0 }, b .1)
 
 pub accepting : (s : List ℕ) (later : ℕ) → Accepted s → fileChecks s later ≡ later
-unfolding fileChecks headerCut headerChecks bodyChecks unknownForm wrongWidth wrongLength spareBits
+unfolding fileChecks headerCut wholeHeaderChecks bodyChecks unknownForm wrongWidth wrongLength spareBits
 accepting s later a =
     let h = headerOf s in
     let end = layout h .end in
     rw (
-      le-ltb (length s) 13 (a .long),
+      le-ltb (length s) 13 (a .head .long),
       eq-eqb (h .form) 1 (ap (λ x. x .form) (a .head .header)),
       a .head .range,
       eq-eqb (h .width) (indexWidth (h .counts)) (ap (λ x. x .width) (a .head .header)),
@@ -153,7 +179,7 @@ pub reading-accepts : (s : List ℕ) (lent : Counts) → Accepted s → fewer le
 reading-accepts s lent a e = reading-later s lent ∙ rw (accepting s 0 a, e)
 
 pub reading-accepted : (s : List ℕ) (lent : Counts) → readingRefusal s lent ≡ 0 → Accepted s × (fewer lent (headerOf s .counts) ≡ false)
-unfolding readingRefusal fileChecks headerChecks bodyChecks
+unfolding readingRefusal fileChecks wholeHeaderChecks bodyChecks
 reading-accepted s lent e =
     let a = accepted s (check (fewer lent (headerOf s .counts)) 11 0) e in
     (a .0, passes (fewer lent (headerOf s .counts)) 11 0 (omega arith) (a .1) .0)

@@ -1,9 +1,9 @@
 -- The returns of the two entry points, case by case: the answer, and what lent memory holds.
 use Prim.Native.Nat.{ℕ, zero, suc, _≤_, _<_}
-use mathlib.Core.Path.{_≡_, refl, sym, ap, ap₂, _∙_}
+use mathlib.Core.Path.{_≡_, refl, sym, ap, ap₂, subst, _∙_}
 use mathlib.Core.Bool.{Bool, true, false}
 use mathlib.Core.List.{List}
-use lib.ListN.{length}
+use lib.ListN.{length, take}
 use borrow.Author.Tests.{lt-ltb, le-ltb}
 use Rattle.rules.specs.declared.Counts.{Counts}
 use Rattle.rules.specs.declared.CountsAnswer.{CountsAnswer}
@@ -12,15 +12,15 @@ use Rattle.rules.specs.Lists.{overwritten}
 use Rattle.rules.specs.Mesh.{Mesh}
 use Rattle.rules.specs.Counts.{countsOf, fewer}
 use Rattle.rules.specs.Refusals.{check, tableChecks}
-use Rattle.rules.specs.EntryPoints.{countsAnswer, countAnswer, resultBuffer, resultTables}
+use Rattle.rules.specs.EntryPoints.{countsAnswer, countAnswer, resultBuffer, resultTables, front}
 use Rattle.rules.specs.StoredForm.{storedForm, headerOf, storedMesh, readingRefusal, readingAnswer, readingOutput, writingRefusal, writingAnswer, writingOutput}
 use Rattle.checks.proofs.Passed.{TablesPass}
 use Rattle.bits.specs.Writing.{Bytes}
 use Rattle.stored.specs.declared.header.Head.{Head}
 use Rattle.stored.specs.declared.header.Head.the-variants as H
-use Rattle.stored.specs.Inverse.{WritesBack, ReadsBack}
 use Rattle.stored.specs.Reading.{headOf, answerOf, fileChecks}
 use Rattle.stored.proofs.Acceptance.{orLater, reading-later, head-read, head-refused, answer-head, refused-tables, reading-accepted, tables-later, mesh-passes, passing}
+use Rattle.stored.proofs.Form.{Sized, stored-under, under-sized, begins, front-result}
 use Rattle.stored.proofs.Inverse.{writes-back, reads-back}
 
 -- ---- reading
@@ -78,13 +78,19 @@ module _ (s : List ℕ) (t : Mesh) where
   counts-refusal zero c = refl
   counts-refusal (suc n) c = refl
 
-  -- What reading accepted, written again, gives the same bytes.
-  pub promised-bytes : (r : CountsAnswer) → r ≡ readingAnswer s t → Bytes s → r .refusal ≡ 0 → WritesBack s (storedMesh s)
-  unfolding readingAnswer
-  promised-bytes r e bytes z =
+  -- The mesh that stands in the tables after reading, written again, gives the same bytes.
+  pub promised-bytes : (r : CountsAnswer) (after : Mesh) → r ≡ readingAnswer s t → after ≡ readingOutput s t → Bytes s → r .refusal ≡ 0
+      → let m = front (r .counts) after in (writingRefusal m (length s) ≡ 0) × (storedForm m ≡ s)
+  unfolding readingAnswer readingOutput
+  promised-bytes r after e o bytes z =
       let n = readingRefusal s (countsOf t) in
-      let none : n ≡ 0 = sym (counts-refusal n (headerOf s .counts)) ∙ ap (λ (x : CountsAnswer). x .refusal) (sym e) ∙ z in
-      writes-back s (reading-accepted s (countsOf t) none .0) bytes
+      let c = headerOf s .counts in
+      let none : n ≡ 0 = sym (counts-refusal n c) ∙ ap (λ (x : CountsAnswer). x .refusal) (sym e) ∙ z in
+      let counts : r .counts ≡ c = ap (λ (x : CountsAnswer). x .counts) (e ∙ ap (λ (k : ℕ). countsAnswer k c) none) in
+      let tables : after ≡ resultTables 0 t (storedMesh s) = o ∙ ap (λ (k : ℕ). resultTables k t (storedMesh s)) none in
+      let sized : Sized (headerOf s) (storedMesh s) = subst (Sized (headerOf s)) (sym (stored-under s)) (under-sized s (headerOf s)) in
+      let same : front (r .counts) after ≡ storedMesh s = ap₂ front counts tables ∙ front-result (headerOf s) t (storedMesh s) sized in
+      subst (λ (m : Mesh). (writingRefusal m (length s) ≡ 0) × (storedForm m ≡ s)) (sym same) (writes-back s (reading-accepted s (countsOf t) none .0) bytes)
 
 -- ---- writing
 
@@ -125,10 +131,15 @@ module _ (m : Mesh) (d : List ℕ) where
   count-refusal zero k = refl
   count-refusal (suc n) k = refl
 
-  -- What writing accepted is read back as the same mesh.
-  pub promised-mesh : (r : CountAnswer) → r ≡ writingAnswer m d → r .refusal ≡ 0 → ReadsBack m (storedForm m)
-  unfolding writingAnswer writingRefusal
-  promised-mesh r e z =
+  -- The bytes that stand in the buffer after writing are read back as the same mesh.
+  pub promised-mesh : (r : CountAnswer) (after : List ℕ) → r ≡ writingAnswer m d → after ≡ writingOutput m d → r .refusal ≡ 0
+      → let s = take (r .count) after in (readingRefusal s (countsOf m) ≡ 0) × (storedMesh s ≡ m)
+  unfolding writingAnswer writingOutput writingRefusal
+  promised-mesh r after e o z =
       let n = writingRefusal m (length d) in
-      let none : n ≡ 0 = sym (count-refusal n (length (storedForm m))) ∙ ap (λ (x : CountAnswer). x .refusal) (sym e) ∙ z in
-      reads-back m (mesh-passes m _ none)
+      let bytes = storedForm m in
+      let none : n ≡ 0 = sym (count-refusal n (length bytes)) ∙ ap (λ (x : CountAnswer). x .refusal) (sym e) ∙ z in
+      let count : r .count ≡ length bytes = ap (λ (x : CountAnswer). x .count) (e ∙ ap (λ (k : ℕ). countAnswer k (length bytes)) none) in
+      let buffer : after ≡ overwritten d bytes = o ∙ ap (λ (k : ℕ). resultBuffer k d bytes) none in
+      let same : take (r .count) after ≡ bytes = ap₂ take count buffer ∙ begins (length bytes) d bytes refl in
+      subst (λ (s : List ℕ). (readingRefusal s (countsOf m) ≡ 0) × (storedMesh s ≡ m)) (sym same) (reads-back m (mesh-passes m _ none))

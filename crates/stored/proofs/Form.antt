@@ -3,9 +3,11 @@ use Prim.Native.Nat.{ℕ, zero, suc, _+_, _*_, _/_, _%_, _^_, _<_}
 use mathlib.Core.Path.{_≡_, refl, sym, ap, ap₂, _∙_, subst}
 use mathlib.Core.List.{List, [], _∷_, _++_, map}
 use native.Mathlib.Omega.{arith}
-use lib.ListN.{length, getD, length-map}
+use lib.ListN.{length, take, drop, getD, length-map}
+use lib.Seq.{take-at}
 use lib.Pow.{pow-pos}
-use Rattle.rules.specs.Mesh.{Mesh, hex, quad, segment}
+use Rattle.rules.specs.Lists.{overwritten}
+use Rattle.rules.specs.Mesh.{Mesh, mesh, hex, quad, segment}
 use Rattle.rules.specs.Refusals.{partialEntry}
 use Rattle.checks.proofs.ByKind.{whole-tables}
 use Rattle.lists.proofs.Tests.{or-neither}
@@ -14,6 +16,7 @@ use borrow.Author.Tests.{eq-eqb, eqb-true, not-false}
 use mathlib.Core.Bool.{false, not}
 use lib.Dec.{eqb}
 use Rattle.rules.specs.Counts.{countsOf}
+use Rattle.rules.specs.EntryPoints.{frontOf, front, resultTables}
 use Rattle.rules.specs.Bits.{tableAt, Field, bitsIn}
 use Rattle.rules.specs.StoredForm.{toField, ofField, Header, tableFields, headerFields, headerOf, layout, storedMesh}
 use Rattle.bits.proofs.Fields.{field-lt}
@@ -79,6 +82,23 @@ sized-counts h m z =
     let g : length (m .segments) / 2 ≡ c .segments = omega (arith, z .segments) in
     let p : length (m .points) / 1 ≡ c .points = omega (arith, z .points) in
     λ i. record { vertices = v i; hexes = x i; quads = q i; segments = g i; points = p i }
+
+-- the front of tables in which such a mesh was stored
+module _ {A : Type 0} where
+  pub begins : (n : ℕ) (old new : List A) → length new ≡ n → take n (overwritten old new) ≡ new
+  unfolding overwritten
+  begins n old new e = take-at new (drop (length new) old) n e
+
+pub front-result : (h : Header) (old m : Mesh) → Sized h m → front (h .counts) (resultTables 0 old m) ≡ m
+unfolding frontOf resultTables
+front-result h old m z =
+    let c = h .counts in
+    let xs = begins (3 * c .vertices) (old .vertices) (m .vertices) (z .vertices) in
+    let hexes = begins (8 * c .hexes) (old .hexes) (m .hexes) (z .hexes) in
+    let quads = begins (4 * c .quads) (old .quads) (m .quads) (z .quads) in
+    let segments = begins (2 * c .segments) (old .segments) (m .segments) (z .segments) in
+    let points = begins (c .points) (old .points) (m .points) (z .points) in
+    λ i. mesh (xs i) (hexes i) (quads i) (segments i) (points i)
 
 -- such tables have no partial entry, and tables without one have the lengths of their counts
 pub sized-whole : (h : Header) (m : Mesh) → Sized h m → partialEntry m ≡ false

@@ -1,44 +1,46 @@
--- The reads of the header, each under its rule, make the checks 14, 2 and 15 in this order (`header-read`).
-use Prim.Native.Nat.{ℕ, zero, suc, _-_, _≤_}
-use mathlib.Core.Path.{_≡_, refl}
+-- The reads of the header, each under its rule, make the checks 14 and 2 in this order (`header-read`); the read of the width makes check 15
+-- (`width-read`).
+use Prim.Native.Nat.{ℕ, zero, suc, _≤_}
+use mathlib.Core.Path.{_≡_, refl, sym, ap, _∙_}
 use mathlib.Core.Bool.{Bool, true, false, cond, not, _||_}
 use mathlib.Core.List.{List}
+use native.Mathlib.Decide.{decLt}
 use native.Mathlib.Omega.{arith}
+use lib.ListN.{length}
 use lib.Dec.{ltb, eqb, eqb·suc-zero}
-use borrow.Author.Tests.{lt-ltb, le-ltb, ltb-false, ne-eqb}
+use borrow.Author.Tests.{lt-ltb, le-ltb, eq-eqb, ne-eqb}
 use Rattle.rules.specs.declared.Counts.{Counts}
 use Rattle.rules.specs.Counts.{outOfRange}
 use Rattle.rules.specs.Refusals.{check}
-use Rattle.rules.specs.Bits.{fieldAt, widthOf}
-use Rattle.rules.specs.StoredForm.{headerOf, indexWidth, unknownForm, wrongWidth}
-use Rattle.lists.proofs.Tests.{or-neither}
-use Rattle.bits.proofs.Fields.{field-lt}
-use Rattle.stored.specs.declared.fields.Cursor.{Cursor}
+use Rattle.rules.specs.Bits.{fieldAt}
+use Rattle.rules.specs.StoredForm.{headerOf, indexWidth, headerCut, unknownForm, wrongWidth, headerChecks}
 use Rattle.stored.specs.declared.header.Head.{Head}
 use Rattle.stored.specs.declared.header.Head.the-variants as H
 use Rattle.stored.specs.Fields.{breaks, fieldUnder, andThen, formRule, widthRule, vertexRule, cellRule, cellCounts}
-use Rattle.stored.specs.Reading.{headOf, headerChecks}
-use Rattle.stored.proofs.FieldReads.{Kept, then-test}
+use Rattle.stored.specs.Reading.{headOf}
+use Rattle.stored.proofs.FieldReads.{then-test}
 
 -- the tests in the order of the fields are the checks in reading's order
-header-tests : (form none many hexes quads segments points width : Bool) (c : Counts)
+header-tests : (form none many hexes quads segments points : Bool) (c : Counts)
     → cond form (H.Refused 14)
     (cond (none || many) (H.Refused 2)
     (cond hexes (H.Refused 2)
     (cond quads (H.Refused 2)
     (cond segments (H.Refused 2)
-    (cond points (H.Refused 2)
-    (cond width (H.Refused 15) (H.Read c)))))))
-    ≡ headOf (check form 14 (check (none || (many || (hexes || (quads || (segments || points))))) 2 (check width 15 0))) c
-header-tests true none many h q s p w c = refl
-header-tests false true many h q s p w c = refl
-header-tests false false true h q s p w c = refl
-header-tests false false false true q s p w c = refl
-header-tests false false false false true s p w c = refl
-header-tests false false false false false true p w c = refl
-header-tests false false false false false false true w c = refl
-header-tests false false false false false false false true c = refl
-header-tests false false false false false false false false c = refl
+    (cond points (H.Refused 2) (H.Read c))))))
+    ≡ headOf (check form 14 (check (none || (many || (hexes || (quads || (segments || points))))) 2 0)) c
+header-tests true none many h q s p c = refl
+header-tests false true many h q s p c = refl
+header-tests false false true h q s p c = refl
+header-tests false false false true q s p c = refl
+header-tests false false false false true s p c = refl
+header-tests false false false false false true p c = refl
+header-tests false false false false false false true c = refl
+header-tests false false false false false false false c = refl
+
+width-test : (b : Bool) (c : Counts) → cond b (H.Refused 15) (H.Read c) ≡ headOf (check b 15 0) c
+width-test true c = refl
+width-test false c = refl
 
 -- ---- the rules as tests
 
@@ -50,9 +52,15 @@ breaks-form (suc (suc n)) =
     let far : eqb (suc (suc n)) 1 ≡ false = ne-eqb (suc (suc n)) 1 (λ (e : suc (suc n) ≡ 1). omega arith) in
     rw (le-ltb (suc (suc n)) 1 (omega arith), lt-ltb 1 (suc (suc n)) (omega arith), far)
 
-breaks-width : (s : List ℕ) (p : ℕ) → breaks widthRule (fieldAt s p 5) ≡ false
+breaks-width : (w v : ℕ) → breaks (widthRule w) v ≡ not (eqb v w)
 unfolding breaks
-breaks-width s p = rw (le-ltb (fieldAt s p 5) 0 (omega arith), le-ltb 31 (fieldAt s p 5) (omega (arith, field-lt s p 5)))
+breaks-width w v = elim (decLt v w) [
+  | yes l ↦ rw (lt-ltb v w l, ne-eqb v w (λ (e : v ≡ w). omega arith))
+  | no f ↦ elim (decLt w v) [
+    | yes l ↦ rw (le-ltb v w (omega arith), lt-ltb w v l, ne-eqb v w (λ (e : v ≡ w). omega arith))
+    | no g ↦ rw (le-ltb v w (omega arith), le-ltb w v (omega arith), eq-eqb v w (omega arith))
+  ]
+]
 
 breaks-vertices : (v : ℕ) → breaks vertexRule v ≡ (eqb v 0 || ltb 1_000_000 v)
 unfolding breaks
@@ -69,16 +77,15 @@ breaks-cells v = rw (le-ltb v 0 (omega arith))
 abbrev pub headerReads : List ℕ → Head
 headerReads s =
     andThen (fieldUnder s 0 formRule) (λ form c.
-    andThen (fieldUnder s (c .at) widthRule) (λ width c.
-    andThen (fieldUnder s (c .at) vertexRule) (λ vertices c. cellCounts s (c .at) width vertices)))
+    andThen (fieldUnder s 9 vertexRule) (λ vertices c. cellCounts s (c .at) vertices))
 
-pub header-read : (s : List ℕ) → headerReads s ≡ headOf (headerChecks s 0) (headerOf s .counts)
-unfolding cellCounts headerChecks unknownForm outOfRange wrongWidth indexWidth headerOf
-header-read s =
+pub header-read : (s : List ℕ) → 13 ≤ length s → headerReads s ≡ headOf (headerChecks s 0) (headerOf s .counts)
+unfolding cellCounts headerCut unknownForm outOfRange headerOf
+header-read s long =
     let h = headerOf s in
     let c = h .counts in
     rw (
-      then-test,
+      le-ltb (length s) 13 long,
       then-test,
       then-test,
       then-test,
@@ -86,18 +93,20 @@ header-read s =
       then-test,
       then-test,
       breaks-form,
-      breaks-width,
       breaks-vertices,
       breaks-cells (fieldAt s 29 18),
       breaks-cells (fieldAt s 47 18),
       breaks-cells (fieldAt s 65 18),
       breaks-cells (fieldAt s 83 18),
     )
-    (header-tests (not (eqb (h .form) 1)) (eqb (c .vertices) 0) (ltb 1_000_000 (c .vertices)) (ltb 250_000 (c .hexes)) (ltb 250_000 (c .quads)) (ltb 250_000 (c .segments)) (ltb 250_000 (c .points)) (not (eqb (h .width) (widthOf (c .vertices - 1)))) c)
+    (header-tests (not (eqb (h .form) 1)) (eqb (c .vertices) 0) (ltb 1_000_000 (c .vertices)) (ltb 250_000 (c .hexes)) (ltb 250_000 (c .quads)) (ltb 250_000 (c .segments)) (ltb 250_000 (c .points)) c)
 
--- a count of vertices that keeps its rule is not 0
-pub some-vertices : {s : List ℕ} {p v : ℕ} {c : Cursor} → Kept s p vertexRule v c → 1 ≤ v
-unfolding breaks
-some-vertices {s} {p} k =
-    let v : ℕ = fieldAt s p 20 in
-    omega (arith, k .value, ltb-false v 1 (or-neither (ltb v 1) (ltb 1_000_000 v) (k .keeps) .0))
+-- ---- the width
+
+pub width-read : (s : List ℕ) (c : Counts) → headerOf s .counts ≡ c
+    → andThen (fieldUnder s 4 (widthRule (indexWidth c))) (λ width cursor. H.Read c) ≡ headOf (check (wrongWidth s) 15 0) c
+unfolding wrongWidth headerOf
+width-read s c e =
+    then-test s 4 (widthRule (indexWidth c)) (λ width cursor. H.Read c)
+    ∙ ap (λ (b : Bool). cond b (H.Refused 15) (H.Read c)) (breaks-width (indexWidth c) (fieldAt s 4 5) ∙ ap (λ (x : Counts). not (eqb (fieldAt s 4 5) (indexWidth x))) (sym e))
+    ∙ width-test (wrongWidth s) c

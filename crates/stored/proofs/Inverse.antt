@@ -16,9 +16,8 @@ use Rattle.rules.specs.Lists.{any}
 use Rattle.rules.specs.Mesh.{Mesh, topology}
 use Rattle.rules.specs.Counts.{countsOf, outOfRange, fewer}
 use Rattle.rules.specs.Refusals.{partialEntry, countOutOfRange, outside, coordinateOutOfRange, cornerOutOfRange}
-use Rattle.rules.specs.EntryPoints.{countsAnswer, countAnswer, resultBuffer, resultTables}
 use Rattle.rules.specs.Bits.{number, bytesFor, filling, tableAt, Field, bitsIn, encode, widthOf}
-use Rattle.rules.specs.StoredForm.{toField, ofField, tableFields, headerFields, indexWidth, meshFields, storedForm, headerOf, layout, storedMesh, readingRefusal, readingAnswer, readingOutput, writingRefusal, writingAnswer, writingOutput}
+use Rattle.rules.specs.StoredForm.{toField, ofField, tableFields, headerFields, indexWidth, meshFields, storedForm, headerOf, layout, storedMesh, readingRefusal, writingRefusal}
 use Rattle.lists.proofs.Tests.{at-none, none-at, or-neither}
 use Rattle.integers.proofs.Range.{inside}
 use Rattle.soundness.proofs.Rounds.{in-range}
@@ -30,7 +29,6 @@ use Rattle.bits.proofs.IndexWidth.{width-le, width-holds}
 use Rattle.bits.proofs.Coordinates.{toField-lt, ofField-toField, ofField-near, getD-toField, getD-ofField}
 use Rattle.bits.proofs.Encoding.{Stand, bitsIn-append, fit-append, fit-table, length-encode, encode-filling, encoded-stand, stand-encoded, stand-parts}
 use Rattle.stored.specs.Form.{headerFor}
-use Rattle.stored.specs.Inverse.{WritesBack, ReadsBack}
 use Rattle.stored.proofs.Acceptance.{Accepted, reading-accepts, passing, pass-range, pass-near}
 use Rattle.stored.proofs.Form.{tablesUnder, meshUnder, stored-under, under-sized, sized-counts, sized-whole, whole-sized, bits-under, bits-header, table-lt, under-stands, standing-header, standing-mesh}
 
@@ -149,16 +147,27 @@ module _ (s : List ℕ) (a : Accepted s) where
         known = a .body .corners;
       }
 
-  pub writes-back : Bytes s → WritesBack s (storedMesh s)
-  unfolding writingAnswer writingOutput writingRefusal
-  writes-back bytes buffer room =
+  pub writes-back : Bytes s → let m = storedMesh s in (writingRefusal m (length s) ≡ 0) × (storedForm m ≡ s)
+  unfolding writingRefusal
+  writes-back bytes =
       let m = storedMesh s in
       let again = same-bytes bytes in
-      let free : ltb (length buffer) (length (storedForm m)) ≡ false = le-ltb (length buffer) (length (storedForm m)) (omega (arith, ap length again)) in
-      let none : writingRefusal m (length buffer) ≡ 0 = passing m _ passes-again ∙ rw free in
-      (ap₂ countAnswer none (ap length again), ap₂ (λ n t. resultBuffer n buffer t) none again)
+      let room : ltb (length s) (length (storedForm m)) ≡ false = le-ltb (length s) (length (storedForm m)) (omega (arith, ap length again)) in
+      (passing m _ passes-again ∙ rw room, again)
 
 -- ---- what writing accepted, read back
+
+-- tables have places for what they hold
+enough : (c : Counts) → fewer c c ≡ false
+unfolding fewer
+enough c =
+    rw (
+      le-ltb (c .vertices) (c .vertices) (omega arith),
+      le-ltb (c .hexes) (c .hexes) (omega arith),
+      le-ltb (c .quads) (c .quads) (omega arith),
+      le-ltb (c .segments) (c .segments) (omega arith),
+      le-ltb (c .points) (c .points) (omega arith),
+    )
 
 coordinates-again : (xs : List ℤ) → ((i : ℕ) → outside (getD xs i (pos 0)) ≡ false) → map ofField (map toField xs) ≡ xs
 coordinates-again [] h = refl
@@ -192,8 +201,11 @@ module _ (m : Mesh) (w : TablesPass m) where
       let end : layout (headerOf s) .end ≡ bitsIn (meshFields m) = ap (λ h. layout h .end) header-back ∙ sym (stored-bits m w) in
       let long = length-encode (meshFields m) in
       record {
-        long = omega (arith, long, bytesFor-ge (bitsIn (meshFields m)), ap bitsIn (mesh-fields m), bitsIn-append (headerFields h) (tablesUnder h m), bits-header h);
-        head = record { range = ap outOfRange counts ∙ pass-range m w; header = header-back ∙ ap headerFor (sym counts) };
+        head = record {
+          long = omega (arith, long, bytesFor-ge (bitsIn (meshFields m)), ap bitsIn (mesh-fields m), bitsIn-append (headerFields h) (tablesUnder h m), bits-header h);
+          range = ap outOfRange counts ∙ pass-range m w;
+          header = header-back ∙ ap headerFor (sym counts);
+        };
         body = record {
           whole = long ∙ ap bytesFor (sym end);
           zeros = ap (λ (n : ℕ). number s % 2 ^ filling n) end ∙ encode-filling (meshFields m) (fit-mesh m w);
@@ -201,11 +213,7 @@ module _ (m : Mesh) (w : TablesPass m) where
         };
       }
 
-  pub reads-back : ReadsBack m (storedForm m)
-  unfolding readingAnswer readingOutput
-  reads-back tables room =
-      let s = storedForm m in
-      let counts : headerOf s .counts ≡ countsOf m = ap (λ h. h .counts) header-back in
-      let none : readingRefusal s (countsOf tables) ≡ 0 =
-      reading-accepts s (countsOf tables) accepted-back (ap (fewer (countsOf tables)) counts ∙ room) in
-      (ap₂ countsAnswer none counts, ap₂ (λ n x. resultTables n tables x) none same-mesh)
+  pub reads-back : let s = storedForm m in (readingRefusal s (countsOf m) ≡ 0) × (storedMesh s ≡ m)
+  reads-back =
+      let counts : headerOf (storedForm m) .counts ≡ countsOf m = ap (λ h. h .counts) header-back in
+      (reading-accepts (storedForm m) (countsOf m) accepted-back (ap (fewer (countsOf m)) counts ∙ enough (countsOf m)), same-mesh)

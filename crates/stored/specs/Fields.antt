@@ -1,10 +1,10 @@
--- What a field read answers: document 01, 'Forms': "each field read answers value with cursor or refusal; let .. else hands the refusal on".
-use mathlib.Core.Bool.{Bool, cond, not, _||_}
+-- Words of inner contracts: what a field read answers, a value with the next cursor or a refusal, and what reads in a row answer.
+use mathlib.Core.Bool.{Bool, cond, _||_}
 use mathlib.Core.List.{List}
-use Prim.Native.Nat.{ℕ, _+_, _-_, _*_}
-use lib.Dec.{ltb, eqb}
+use Prim.Native.Nat.{ℕ, _+_, _*_}
+use lib.Dec.{ltb}
 use Rattle.rules.specs.Lists.{any}
-use Rattle.rules.specs.Bits.{fieldAt, tableAt, widthOf}
+use Rattle.rules.specs.Bits.{fieldAt, tableAt}
 use Rattle.stored.specs.declared.fields.Cursor.{Cursor}
 use Rattle.stored.specs.declared.fields.Rule.{Rule}
 use Rattle.stored.specs.declared.fields.Field.{Field}
@@ -42,12 +42,13 @@ abbrev pub andThen : Field → (ℕ → Cursor → Head) → Head
 andThen (F.Value v c) next = next v c
 andThen (F.Refused n) next = H.Refused n
 
--- "form number (4 bits, 1)"; "index width w (5)"; "counts of vertices (20), hexes, quads, segments, points (18 each)"
+-- the form number; below it the rules of the other fields
 abbrev pub formRule : Rule
 formRule = record { width = 4; low = 1; high = 1; refusal = 14 }
 
-abbrev pub widthRule : Rule
-widthRule = record { width = 5; low = 0; high = 31; refusal = 15 }
+-- the index width that is called for
+abbrev pub widthRule : ℕ → Rule
+widthRule w = record { width = 5; low = w; high = w; refusal = 15 }
 
 abbrev pub vertexRule : Rule
 vertexRule = record { width = 20; low = 1; high = 1_000_000; refusal = 2 }
@@ -55,12 +56,11 @@ vertexRule = record { width = 20; low = 1; high = 1_000_000; refusal = 2 }
 abbrev pub cellRule : Rule
 cellRule = record { width = 18; low = 0; high = 250_000; refusal = 2 }
 
--- the counts of cells from bit p on, and the test of the width
-unfoldable pub cellCounts : List ℕ → ℕ → ℕ → ℕ → Head
-cellCounts s p width vertices =
+-- the counts of cells from bit p on
+unfoldable pub cellCounts : List ℕ → ℕ → ℕ → Head
+cellCounts s p vertices =
     andThen (fieldUnder s p cellRule) (λ hexes c.
     andThen (fieldUnder s (c .at) cellRule) (λ quads c.
     andThen (fieldUnder s (c .at) cellRule) (λ segments c.
     andThen (fieldUnder s (c .at) cellRule) (λ points c.
-    cond (not (eqb width (widthOf (vertices - 1)))) (H.Refused 15)
-    (H.Read (record { vertices = vertices; hexes = hexes; quads = quads; segments = segments; points = points }))))))
+    H.Read (record { vertices = vertices; hexes = hexes; quads = quads; segments = segments; points = points })))))

@@ -1,4 +1,4 @@
--- The header that a mesh calls for, and the code's layout against the rules'.
+-- Words of inner contracts: the header that a mesh calls for, and the code's layout against the rules'.
 use mathlib.Core.Path.{_≡_}
 use Prim.Native.Nat.{ℕ, _+_, _*_, _/_}
 use Rattle.rules.specs.declared.Counts.{Counts}

@@ -5,17 +5,18 @@ use crate::fields::Rule;
 use crate::fields::read_field;
 use crate::fields::read_fields;
 use crate::header::Head;
+use crate::header::check_width;
 use crate::header::hand_on;
-use crate::header::read_header;
+use crate::header::read_counts;
 use crate::layout::layout_of;
 use rules::Counts;
 ghost use mathlib.Core.Path.{_≡_};
 ghost use Rattle.rules.specs.StoredForm.{headerOf};
-ghost use Rattle.stored.specs.Reading.{headOf, headerChecks, bodyChecks, fileChecks};
+ghost use Rattle.stored.specs.Reading.{headOf, wholeHeaderChecks, bodyChecks, fileChecks};
 
 // What stands behind the header: 13 for the whole length, 16 for a filling bit, 4 for a corner.
 fn check_body(s: &[u8], c: Counts) -> Head
-    requires { ⌜ (headerChecks (now s) 0 ≡ 0) × (headerOf (now s) .counts ≡ c) ⌝ }
+    requires { ⌜ (wholeHeaderChecks (now s) 0 ≡ 0) × (headerOf (now s) .counts ≡ c) ⌝ }
     ensures { λ r. ⌜ r ≡ headOf (bodyChecks (now (s .entry)) 0) c ⌝ }
 {
     let at = layout_of(c);
@@ -49,12 +50,13 @@ fn check_body(s: &[u8], c: Counts) -> Head
 pub fn check_file(s: &[u8]) -> Head
     ensures { λ r. ⌜ r ≡ headOf (fileChecks (now (s .entry)) 0) (headerOf (now (s .entry)) .counts) ⌝ }
 {
-    if s.len() < 13 {
-        return Head::Refused(13);
-    }
-    let h = read_header(s);
+    let h = read_counts(s);
     let Head::Read(c) = h else {
         return h;
+    };
+    let w = check_width(s, c);
+    let Head::Read(_) = w else {
+        return w;
     };
     check_body(s, c)
 }

@@ -1,4 +1,4 @@
-// The header: seven fields, each under its rule, and the index width that the count of vertices calls for.
+// The header: its counts, each under its rule, and then the index width that the count of vertices calls for.
 use crate::fields::Cursor;
 use crate::fields::Field;
 use crate::fields::Rule;
@@ -7,9 +7,10 @@ use rules::Counts;
 ghost use mathlib.Core.Path.{_≡_};
 ghost use Prim.Native.Nat.{_≤_};
 ghost use lib.ListN.{length};
-ghost use Rattle.rules.specs.StoredForm.{headerOf};
+ghost use Rattle.rules.specs.Refusals.{check};
+ghost use Rattle.rules.specs.StoredForm.{headerOf, wrongWidth, headerChecks};
 ghost use Rattle.stored.specs.Fields.{handOn, cellCounts};
-ghost use Rattle.stored.specs.Reading.{headOf, headerChecks};
+ghost use Rattle.stored.specs.Reading.{headOf};
 
 // The counts that a header gives, or a refusal.
 pub enum Head {
@@ -23,14 +24,6 @@ const FORM: Rule = Rule {
     low: 1,
     high: 1,
     refusal: 14,
-};
-
-// The index width in 5 bits. Which it must be, the count of vertices says.
-const WIDTH: Rule = Rule {
-    width: 5,
-    low: 0,
-    high: 31,
-    refusal: 15,
 };
 
 // The count of vertices in 20 bits, else 2.
@@ -59,10 +52,10 @@ pub fn hand_on(f: Field) -> Head
     }
 }
 
-// The four counts of cells behind the cursor, and then 15 unless the width is that of the count of vertices.
-fn read_cell_counts(s: &[u8], c: Cursor, width: u32, vertices: u32) -> Head
-    requires { ⌜ (c .at ≡ 29) × (13 ≤ length (now s)) × (1 ≤ vertices) ⌝ }
-    ensures { λ r. ⌜ r ≡ cellCounts (now (s .entry)) (c .at) width vertices ⌝ }
+// The four counts of cells behind the cursor.
+fn read_cell_counts(s: &[u8], c: Cursor, vertices: u32) -> Head
+    requires { ⌜ (c .at ≡ 29) × (13 ≤ length (now s)) ⌝ }
+    ensures { λ r. ⌜ r ≡ cellCounts (now (s .entry)) (c .at) vertices ⌝ }
 {
     let f0 = read_field(s, c, CELLS);
     let Field::Value(hexes, c0) = f0 else {
@@ -80,9 +73,6 @@ fn read_cell_counts(s: &[u8], c: Cursor, width: u32, vertices: u32) -> Head
     let Field::Value(points, _) = f3 else {
         return hand_on(f3);
     };
-    if width != bits::index_width(vertices - 1) {
-        return Head::Refused(15);
-    }
     Head::Read(Counts {
         vertices,
         hexes,
@@ -92,22 +82,40 @@ fn read_cell_counts(s: &[u8], c: Cursor, width: u32, vertices: u32) -> Head
     })
 }
 
-// The header of a file that is long enough for one: 14, 2 and 15, in this order.
-pub fn read_header(s: &[u8]) -> Head
-    requires { ⌜ 13 ≤ length (now s) ⌝ }
+// The counts of a header: 13 for a file that is too short for one, 14 and 2, in this order. The width, which stands behind the form number,
+// is left out.
+pub fn read_counts(s: &[u8]) -> Head
     ensures { λ r. ⌜ r ≡ headOf (headerChecks (now (s .entry)) 0) (headerOf (now (s .entry)) .counts) ⌝ }
 {
+    if s.len() < 13 {
+        return Head::Refused(13);
+    }
     let f0 = read_field(s, Cursor { at: 0 }, FORM);
-    let Field::Value(_, c0) = f0 else {
+    let Field::Value(_, _) = f0 else {
         return hand_on(f0);
     };
-    let f1 = read_field(s, c0, WIDTH);
-    let Field::Value(width, c1) = f1 else {
+    let f1 = read_field(s, Cursor { at: 9 }, VERTICES);
+    let Field::Value(vertices, c) = f1 else {
         return hand_on(f1);
     };
-    let f2 = read_field(s, c1, VERTICES);
-    let Field::Value(vertices, c2) = f2 else {
-        return hand_on(f2);
+    read_cell_counts(s, c, vertices)
+}
+
+// The index width: 15 unless it is that of the count of vertices.
+pub fn check_width(s: &[u8], c: Counts) -> Head
+    requires { ⌜ (headerChecks (now s) 0 ≡ 0) × (headerOf (now s) .counts ≡ c) ⌝ }
+    ensures { λ r. ⌜ r ≡ headOf (check (wrongWidth (now (s .entry))) 15 0) c ⌝ }
+{
+    let w = bits::index_width(c.vertices - 1);
+    let width = Rule {
+        width: 5,
+        low: w,
+        high: w,
+        refusal: 15,
     };
-    read_cell_counts(s, c2, width, vertices)
+    let f = read_field(s, Cursor { at: 4 }, width);
+    let Field::Value(_, _) = f else {
+        return hand_on(f);
+    };
+    Head::Read(c)
 }

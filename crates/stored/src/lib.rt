@@ -1,13 +1,15 @@
-// The stored form of a mesh: reading (`read`) and writing (`write`), the two entry points.
+// The stored form of a mesh: reading (`read`), writing (`write`), and the counts in a header (`header_counts`), the three entry points.
 //
-// Reading goes over the file twice. `file::check_file` makes the checks in document 01's order: each field is read under a rule and answers
+// Reading goes over the file twice. `file::check_file` makes the checks in the order of rule 9.4: each field is read under a rule and answers
 // its value with the next cursor, or a refusal, which is handed on (`fields`, `header`). Only then, and if the lent tables have room, the
 // tables are stored (`tables`). Writing makes the checks 1 to 4 of `checks`, asks for room, and puts the header and the five tables
 // (`writing`). `layout` says where each table begins; a table more is a line there, one in `store_tables` and one in `put_mesh`.
 //
-// Both promise the answer and all lent memory by the rules' equations, and that the one undoes the other (specs/Inverse.antt).
+// Both promise the answer and all lent memory by the rules' equations, and that the one undoes the other: what stands in lent memory on
+// return is accepted by the other, and gives back what was there at entry.
 use crate::file::check_file;
 use crate::header::Head;
+use crate::header::read_counts;
 use crate::layout::layout_of;
 use crate::tables::store_tables;
 use crate::tables::too_short;
@@ -17,10 +19,12 @@ use rules::CountAnswer;
 use rules::Counts;
 use rules::CountsAnswer;
 ghost use mathlib.Core.Path.{_≡_};
+ghost use lib.ListN.{length, take};
 ghost use Rattle.rules.specs.Mesh.{mesh};
-ghost use Rattle.rules.specs.StoredForm.{storedForm, storedMesh, readingAnswer, readingOutput, writingAnswer, writingOutput};
+ghost use Rattle.rules.specs.Counts.{countsOf};
+ghost use Rattle.rules.specs.EntryPoints.{front};
+ghost use Rattle.rules.specs.StoredForm.{storedForm, storedMesh, headerAnswer, readingRefusal, readingAnswer, readingOutput, writingRefusal, writingAnswer, writingOutput};
 ghost use Rattle.stored.specs.Reading.{answerOf};
-ghost use Rattle.stored.specs.Inverse.{WritesBack, ReadsBack};
 
 mod fields;
 mod file;
@@ -51,7 +55,14 @@ fn answer_of(h: Head) -> CountsAnswer
     }
 }
 
-// Reads a stored mesh into the fronts of the lent tables. What it accepted, written again, gives the same bytes.
+// The counts in a header, so that tables can be lent for reading. Neither the index width nor what stands behind the header is looked at.
+pub fn header_counts(bytes: &[u8]) -> CountsAnswer
+    ensures { λ r. ⌜ r ≡ headerAnswer (now (bytes .entry)) ⌝ }
+{
+    answer_of(read_counts(bytes))
+}
+
+// Reads a stored mesh into the fronts of the lent tables. The mesh there, written into as many bytes, gives the same bytes.
 pub fn read(
     bytes: &[u8],
     xs: &mut [i32],
@@ -62,7 +73,7 @@ pub fn read(
 ) -> CountsAnswer
     ensures answer { λ r. let tables = mesh (now (xs .entry)) (now (hexes .entry)) (now (quads .entry)) (now (segments .entry)) (now (points .entry)) in ⌜ r ≡ readingAnswer (now (bytes .entry)) tables ⌝ }
     ensures output { λ _. let tables = mesh (now (xs .entry)) (now (hexes .entry)) (now (quads .entry)) (now (segments .entry)) (now (points .entry)) in ⌜ mesh (now (xs .exit)) (now (hexes .exit)) (now (quads .exit)) (now (segments .exit)) (now (points .exit)) ≡ readingOutput (now (bytes .entry)) tables ⌝ }
-    ensures inverse { λ r. ⌜ (r .refusal ≡ 0 → WritesBack (now (bytes .entry)) (storedMesh (now (bytes .entry)))) ⌝ }
+    ensures inverse { λ r. let m = front (r .counts) (mesh (now (xs .exit)) (now (hexes .exit)) (now (quads .exit)) (now (segments .exit)) (now (points .exit))) in ⌜ (r .refusal ≡ 0 → (writingRefusal m (length (now (bytes .entry))) ≡ 0) × (storedForm m ≡ now (bytes .entry))) ⌝ }
 {
     let h = check_file(bytes);
     let Head::Read(c) = h else {
@@ -82,7 +93,7 @@ pub fn read(
     answer_of(h)
 }
 
-// Writes a mesh into the front of the lent buffer. What it accepted is read back as the same mesh.
+// Writes a mesh into the front of the lent buffer. The bytes there, read into tables as long, give the same mesh.
 pub fn write(
     xs: &[i32],
     hexes: &[u32],
@@ -93,7 +104,7 @@ pub fn write(
 ) -> CountAnswer
     ensures answer { λ r. let m = mesh (now (xs .entry)) (now (hexes .entry)) (now (quads .entry)) (now (segments .entry)) (now (points .entry)) in ⌜ r ≡ writingAnswer m (now (buffer .entry)) ⌝ }
     ensures output { λ _. let m = mesh (now (xs .entry)) (now (hexes .entry)) (now (quads .entry)) (now (segments .entry)) (now (points .entry)) in ⌜ now (buffer .exit) ≡ writingOutput m (now (buffer .entry)) ⌝ }
-    ensures inverse { λ r. let m = mesh (now (xs .entry)) (now (hexes .entry)) (now (quads .entry)) (now (segments .entry)) (now (points .entry)) in ⌜ (r .refusal ≡ 0 → ReadsBack m (storedForm m)) ⌝ }
+    ensures inverse { λ r. let m = mesh (now (xs .entry)) (now (hexes .entry)) (now (quads .entry)) (now (segments .entry)) (now (points .entry)) in let s = take (r .count) (now (buffer .exit)) in ⌜ (r .refusal ≡ 0 → (readingRefusal s (countsOf m) ≡ 0) × (storedMesh s ≡ m)) ⌝ }
 {
     let refusal = checks::tables::table_refusal(xs, hexes, quads, segments, points);
     if refusal != 0 {

@@ -1,4 +1,4 @@
-//! The averaging of one round (document 01, "Average" and "Rounding").
+//! The averaging of one round (rules 3.1 to 3.8).
 
 use crate::checks::is_out_of_range;
 use crate::mesh::{corner_count, Mesh};

@@ -45,7 +45,7 @@ fn width_samples() -> Vec<Sample> {
 
 fn further_samples() -> Vec<Sample> {
     vec![
-        sample("p12", p12(), "P12: the 3 by 3 grid of 000, section 3.2, 1 mm apart: ranks 0 1 0 1 2 1 0 1 0"),
+        sample("p12", p12(), "P12: a grid of 3 by 3 vertices, 1 mm apart: ranks 0 1 0 1 2 1 0 1 0"),
         sample("uneven-segments", uneven_segments(), "segments from 0 to 1 and 7; after 1 round vertex 0 is at 1"),
         sample("touching-segments", touching_segments(), "two segments 0 to 8 that share no vertex; 6 after 1 round"),
         sample(
@@ -80,7 +80,7 @@ out part of its shell to fit would teach the way that loses volume.
 pub fn page() -> String {
     let mut text = String::from(concat!(
         "# Sample meshes\n\n",
-        "Stored meshes (document 01, \"Stored form\", form number 1), made by `make_samples` in `tests/kernel`.\n",
+        "Stored meshes (docs/SPECIFICATION.md, section 8), made by `make_samples` in `tests/kernel`.\n",
         "Coordinates are in units of 1/1024 mm. The listing program, which `rt check listing` builds, takes one byte with the\n",
         "rounds and then a mesh. In the root: `printf '\\001' | cat - examples/meshes/p1.mlca | target/bin/listing`.\n\n",
         "| File | Bytes | Vertices | Hexes | Quads | Segments | Points | What it is |\n",

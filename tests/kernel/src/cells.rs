@@ -1,4 +1,4 @@
-//! The parts of one cell (document 01, "The mesh" and "Split").
+//! The parts of one cell (rules 1.7 to 1.9, 2.6).
 
 const HEX_EDGES: [[usize; 2]; 12] =
     [[0, 1], [1, 2], [2, 3], [3, 0], [4, 5], [5, 6], [6, 7], [7, 4], [0, 4], [1, 5], [2, 6], [3, 7]];
@@ -78,7 +78,7 @@ mod tests {
     }
 
     #[test]
-    fn first_child_of_a_hex_follows_the_paper() {
+    fn first_child_of_a_hex_follows_rule_2_7() {
         let parts: Vec<Part> = (0..8).map(|j| smallest_part(3, 0, j)).collect();
         use Part::*;
         assert_eq!(parts, [Corner(0), Edge(0), Face(0), Edge(3), Edge(8), Face(2), Inside, Face(5)]);

@@ -1,4 +1,4 @@
-//! Refusals 1 to 10 of a mesh, each over the whole mesh (document 01, "Refused meshes and files").
+//! Refusals 1 to 10 of a mesh, each over the whole mesh (rules 5.2, 7.1 to 7.10).
 
 use crate::cells::{corner_set, corners_at, faces};
 use crate::mesh::*;
@@ -44,7 +44,7 @@ pub fn is_out_of_range(coordinate: i32) -> bool {
     !(LEAST_COORDINATE..=GREATEST_COORDINATE).contains(&coordinate)
 }
 
-/// Finished counts by the recurrence of "One round". Below 2 to the power 43 for at most 8 rounds.
+/// Finished counts by the recurrence of rule 5.2. Below 2 to the power 43 for at most 8 rounds.
 pub fn finished_counts(mesh: &Mesh, rounds: u32) -> [usize; 5] {
     let parts = Parts::of(mesh);
     let [mut v, mut h, mut q, mut s, p] = mesh.places();

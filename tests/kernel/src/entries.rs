@@ -5,12 +5,15 @@ use crate::average::{irregular_count, refined};
 use crate::checks::{check_mesh, check_refining, is_out_of_range};
 use crate::mesh::{Counts, Mesh};
 use crate::refusal::{refuse_if, Refusal};
-use crate::stored::{decode, encode};
+use crate::stored::{decode, decode_counts, encode};
 
 /// Places of the tables behind the C path and the listing program.
 pub const FIXED_PLACES: [usize; 5] = [1000, 256, 256, 256, 256];
 
-/// The memory that refining is lent (document 01, "Lent memory").
+/// 1.1.0, as the archive tells it: major, minor and patch, each with two digits.
+pub const VERSION: u32 = 1_01_00;
+
+/// The memory that refining is lent (rule 6.8).
 #[derive(Clone, Debug, Default, PartialEq, Eq)]
 pub struct Lent {
     pub output: Mesh,
@@ -47,9 +50,12 @@ impl Lent {
 
 /// Every entry point of a kernel, so that two kernels can be compared.
 pub trait Kernel {
+    fn version(&self) -> u32;
+    fn finished_counts(&self, mesh: &Mesh, rounds: u32, working: &mut [u32]) -> CountsAnswer;
     fn refine(&self, mesh: &Mesh, rounds: u32, lent: &mut Lent) -> CountsAnswer;
     fn irregular_count(&self, mesh: &Mesh, working: &mut [u32]) -> CountAnswer;
     fn millimetres(&self, coordinates: [i32; 3]) -> MillimetresAnswer;
+    fn stored_counts(&self, bytes: &[u8]) -> CountsAnswer;
     fn read(&self, bytes: &[u8], tables: &mut Mesh) -> CountsAnswer;
     fn write(&self, mesh: &Mesh, buffer: &mut [u8]) -> CountAnswer;
     fn refine_stored(&self, stored: &[u8], rounds: u32, result: &mut [u8]) -> i64;
@@ -60,6 +66,15 @@ pub trait Kernel {
 pub struct Oracle;
 
 impl Kernel for Oracle {
+    fn version(&self) -> u32 {
+        VERSION
+    }
+
+    fn finished_counts(&self, mesh: &Mesh, rounds: u32, working: &mut [u32]) -> CountsAnswer {
+        working.fill(0);
+        check_refining(mesh, rounds).map(in_32_bits).into()
+    }
+
     fn refine(&self, mesh: &Mesh, rounds: u32, lent: &mut Lent) -> CountsAnswer {
         let result = refine(mesh, rounds, lent);
         lent.clear_working();
@@ -76,6 +91,10 @@ impl Kernel for Oracle {
         refuse_if(coordinates.into_iter().any(is_out_of_range), Refusal::CoordinateOutOfRange)
             .map(|()| Position { x, y, z })
             .into()
+    }
+
+    fn stored_counts(&self, bytes: &[u8]) -> CountsAnswer {
+        decode_counts(bytes).map(in_32_bits).into()
     }
 
     fn read(&self, bytes: &[u8], tables: &mut Mesh) -> CountsAnswer {
@@ -98,6 +117,11 @@ impl Kernel for Oracle {
         let count = |mesh: Mesh| check_mesh(&mesh, 8).map(|()| irregular_count(&mesh));
         signed(decode(stored, FIXED_PLACES).and_then(count))
     }
+}
+
+/// Counts within the ranges of a mesh, as an answer has them.
+fn in_32_bits(counts: [usize; 5]) -> Counts {
+    Counts::from_list(counts.map(|count| count as u32))
 }
 
 /// Checks 1 to 11, then the rounds, then the output.

@@ -1,4 +1,4 @@
-//! Exact coordinates: the first mesh's, carried through the rounds with no mean rounded (document 01, "Rounding").
+//! Exact coordinates: the first mesh's, carried through the rounds with no mean rounded (rule 4.2).
 
 use crate::average::{sums, Round};
 use crate::integer::{Fraction, Integer};

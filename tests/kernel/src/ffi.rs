@@ -9,6 +9,25 @@ extern "C" {
     fn mlca_refine(stored: *const u8, stored_len: usize, rounds: u32, result: *mut u8, result_len: usize) -> i64;
     fn mlca_irregular_count(stored: *const u8, stored_len: usize) -> i64;
     fn mlca_millimetres(x: i32, y: i32, z: i32) -> MillimetresAnswer;
+    fn mlca_stored_counts(stored: *const u8, stored_len: usize) -> CountsAnswer;
+    fn mlca_version() -> u32;
+
+    #[rustfmt::skip]
+    fn mlca_finished_counts(
+        vertices: *const i32,
+        vertices_len: usize,
+        hexes: *const u32,
+        hexes_len: usize,
+        quads: *const u32,
+        quads_len: usize,
+        segments: *const u32,
+        segments_len: usize,
+        points: *const u32,
+        points_len: usize,
+        rounds: u32,
+        numbers: *mut u32,
+        numbers_len: usize,
+    ) -> CountsAnswer;
 
     #[rustfmt::skip]
     fn mlca_refine_tables(
@@ -51,8 +70,8 @@ extern "C" {
 
     #[rustfmt::skip]
     fn mlca_read_tables(
-        bytes: *const u8,
-        bytes_len: usize,
+        stored: *const u8,
+        stored_len: usize,
         vertices: *mut i32,
         vertices_len: usize,
         hexes: *mut u32,
@@ -77,8 +96,8 @@ extern "C" {
         segments_len: usize,
         points: *const u32,
         points_len: usize,
-        buffer: *mut u8,
-        buffer_len: usize,
+        result: *mut u8,
+        result_len: usize,
     ) -> CountAnswer;
 
     #[rustfmt::skip]
@@ -93,8 +112,8 @@ extern "C" {
         segments_len: usize,
         points: *const u32,
         points_len: usize,
-        working: *mut u32,
-        working_len: usize,
+        numbers: *mut u32,
+        numbers_len: usize,
     ) -> CountAnswer;
 }
 
@@ -103,6 +122,24 @@ extern "C" {
 pub struct Archive;
 
 impl Kernel for Archive {
+    fn version(&self) -> u32 {
+        unsafe { mlca_version() }
+    }
+
+    #[rustfmt::skip]
+    fn finished_counts(&self, mesh: &Mesh, rounds: u32, working: &mut [u32]) -> CountsAnswer {
+        let side = next_side();
+        let (m, numbers) = (FencedMesh::given(mesh, side), Fenced::lent(working, side));
+        let answer = unsafe {
+            mlca_finished_counts(
+                m.vertices.at, m.vertices.len, m.hexes.at, m.hexes.len, m.quads.at, m.quads.len,
+                m.segments.at, m.segments.len, m.points.at, m.points.len, rounds, numbers.at, numbers.len,
+            )
+        };
+        numbers.give_back(working);
+        answer
+    }
+
     #[rustfmt::skip]
     fn refine(&self, mesh: &Mesh, rounds: u32, lent: &mut Lent) -> CountsAnswer {
         let side = next_side();
@@ -144,6 +181,11 @@ impl Kernel for Archive {
 
     fn millimetres(&self, [x, y, z]: [i32; 3]) -> MillimetresAnswer {
         unsafe { mlca_millimetres(x, y, z) }
+    }
+
+    fn stored_counts(&self, bytes: &[u8]) -> CountsAnswer {
+        let stored = Fenced::given(bytes, next_side());
+        unsafe { mlca_stored_counts(stored.at, stored.len) }
     }
 
     #[rustfmt::skip]

@@ -100,7 +100,7 @@ impl Fraction {
     }
 }
 
-/// Compared by cross-multiplying (document 01, "Rounding").
+/// Compared by cross-multiplying (rule 4.4).
 impl PartialEq for Fraction {
     fn eq(&self, other: &Fraction) -> bool {
         self.partial_cmp(other) == Some(Ordering::Equal)

@@ -1,5 +1,5 @@
-//! A kernel for document 01 that was written separately, from the paper alone: an oracle for the proved one.
-//! It is made to be read against the paper, and not to be fast.
+//! A kernel that was written separately, from the rules alone: an oracle for the proved one. It is made to be read
+//! against the rules, and not to be fast. 'Rule 2.7' is the rule of that number in docs/SPECIFICATION.md.
 
 #![allow(clippy::manual_is_multiple_of)]
 

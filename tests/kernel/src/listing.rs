@@ -1,4 +1,4 @@
-//! The text of the listing program (document 01, "The listing program").
+//! The text of the listing program (section 10 of docs/SPECIFICATION.md).
 
 use crate::average::holdings;
 use crate::entries::{refine_within, FIXED_PLACES};

@@ -1,11 +1,11 @@
-//! The five tables of a mesh and their limits (document 01, "The mesh").
+//! The five tables of a mesh and their limits (rules 1.1 to 1.5).
 
 pub const LEAST_COORDINATE: i32 = -536_870_912;
 pub const GREATEST_COORDINATE: i32 = 536_870_911;
 pub const MOST_VERTICES: usize = 1_000_000;
 pub const MOST_CELLS: usize = 250_000;
 
-/// Dimensions of the cell tables, in the order in which document 01 names the tables.
+/// Dimensions of the cell tables, in the order of rule 1.5.
 pub const DIMENSIONS: [usize; 4] = [3, 2, 1, 0];
 
 /// How many corners a cell of this dimension has: point 1, segment 2, quad 4, hex 8.
@@ -116,7 +116,7 @@ impl Mesh {
         }
     }
 
-    /// Writes a mesh over the first part of these tables; the unused rest stays ("Lent memory").
+    /// Writes a mesh over the first part of these tables; the unused rest stays (rule 6.4).
     pub fn overwrite(&mut self, mesh: &Mesh) {
         self.vertices[..mesh.vertices.len()].copy_from_slice(&mesh.vertices);
         for dimension in DIMENSIONS {

@@ -1,35 +1,35 @@
-//! The refusals by their numbers (document 01, "Refused meshes and files").
+//! The refusals by their numbers (section 7 of docs/SPECIFICATION.md).
 
-/// Document 01's words stand beside the field's terms. 12, strayed, is retired: no round leaves the range, and the
+/// The trade's words stand beside the field's terms. 12, strayed, is retired: no round leaves the range, and the
 /// number is never used again.
 #[repr(u32)]
 #[derive(Clone, Copy, Debug, PartialEq, Eq, PartialOrd, Ord, Hash)]
 pub enum Refusal {
-    /// document 01: ragged table
+    /// the trade's word: ragged table
     PartialEntry = 1,
-    /// document 01: wrong size
+    /// the trade's word: wrong size
     CountOutOfRange = 2,
-    /// document 01: far vertex
+    /// the trade's word: far vertex
     CoordinateOutOfRange = 3,
-    /// document 01: unknown corner
+    /// the trade's word: unknown corner
     CornerOutOfRange = 4,
-    /// document 01: folded cell
+    /// the trade's word: folded cell
     RepeatedCorner = 5,
-    /// document 01: doubled cell
+    /// the trade's word: doubled cell
     DuplicateCell = 6,
-    /// document 01: twisted face
+    /// the trade's word: twisted face
     MismatchedFace = 7,
-    /// document 01: loose vertex
+    /// the trade's word: loose vertex
     IsolatedVertex = 8,
     TooManyRounds = 9,
     TooLarge = 10,
     ShortBuffer = 11,
-    /// document 01: wrong length
+    /// the trade's word: wrong length
     WrongFileLength = 13,
     UnknownForm = 14,
-    /// document 01: wrong width
+    /// the trade's word: wrong width
     WrongIndexWidth = 15,
-    /// document 01: spare bits
+    /// the trade's word: spare bits
     NonzeroPadding = 16,
 }
 

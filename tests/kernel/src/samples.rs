@@ -1,4 +1,4 @@
-//! The foundry samples of document 01 as meshes, some at the ends of the range, and larger ones.
+//! The samples of section 11 of docs/SPECIFICATION.md as meshes, some at the ends of the range, and larger ones.
 
 use crate::mesh::{Mesh, GREATEST_COORDINATE, LEAST_COORDINATE};
 
@@ -55,7 +55,7 @@ pub fn p11(count: usize) -> Mesh {
     Mesh { points: (0..count as u32).collect(), ..on_axis(&coordinates) }
 }
 
-/// The grid of 000, section 3.2, with its cells in the order given there, counted from 0; 1024 units apart.
+/// The grid of rule 11.12, 1024 units apart.
 pub fn p12() -> Mesh {
     let from_one = |numbers: &[u32]| numbers.iter().map(|&number| number - 1).collect();
     Mesh {

@@ -1,4 +1,4 @@
-//! The split of one round (document 01, "Split"): numbering of edges and faces, children, exact positions.
+//! The split of one round (rules 2.1 to 2.12): numbering of edges and faces, children, exact positions.
 
 use crate::cells::{corner_set, corners_at, edges, faces, smallest_part, Part};
 use crate::mesh::{corner_count, Mesh};

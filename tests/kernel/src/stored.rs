@@ -1,4 +1,4 @@
-//! The stored form, one bit after the other (document 01, "Stored form").
+//! The stored form, one bit after the other (section 8 of docs/SPECIFICATION.md).
 
 use crate::checks::counts_out_of_range;
 use crate::mesh::{corner_count, Mesh, DIMENSIONS};
@@ -97,14 +97,25 @@ pub fn encode_with_width(mesh: &Mesh, width: usize) -> Vec<u8> {
     writer.bytes
 }
 
-/// Reading in its order: 13 (under 13 bytes), 14, 2, 15, 13 (whole length), 16, 4, 11.
-pub fn decode(bytes: &[u8], places: [usize; 5]) -> Result<Mesh, Refusal> {
+/// The seven fields of a header: 13 (under 13 bytes), 14, 2. The width is not judged.
+fn decode_header(bytes: &[u8]) -> Result<(BitReader<'_>, usize, [usize; 5]), Refusal> {
     refuse_if(bytes.len() < HEADER_BYTES, Refusal::WrongFileLength)?;
     let mut reader = BitReader { bytes, bits: 0 };
     refuse_if(reader.field(4) != FORM, Refusal::UnknownForm)?;
     let width = reader.field(5) as usize;
     let counts = [20, 18, 18, 18, 18].map(|field_width| reader.field(field_width) as usize);
     refuse_if(counts_out_of_range(counts), Refusal::CountOutOfRange)?;
+    Ok((reader, width, counts))
+}
+
+/// The counts in a header, whatever stands behind it.
+pub fn decode_counts(bytes: &[u8]) -> Result<[usize; 5], Refusal> {
+    decode_header(bytes).map(|(_, _, counts)| counts)
+}
+
+/// Reading in its order: 13 (under 13 bytes), 14, 2, 15, 13 (whole length), 16, 4, 11.
+pub fn decode(bytes: &[u8], places: [usize; 5]) -> Result<Mesh, Refusal> {
+    let (mut reader, width, counts) = decode_header(bytes)?;
     refuse_if(width != index_width(counts[0]), Refusal::WrongIndexWidth)?;
     let bits = used_bits(counts, width);
     refuse_if(bytes.len() != bits.div_ceil(8), Refusal::WrongFileLength)?;

@@ -1,4 +1,4 @@
-//! The known wrong kernels of document 01, one round each, to show that a sample tells each from the right one.
+//! The known wrong kernels (rule 11.15), one round each, to show that a sample tells each from the right one.
 
 use crate::average::{holdings, Holding, Round};
 use crate::mesh::{corner_count, Mesh};

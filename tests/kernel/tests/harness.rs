@@ -17,11 +17,36 @@ enum Faulty {
     CountsRegularVertices,
     ReadsBeforeTheLastCorner,
     WritesAByteMore,
+    CountsRoundsBeforeIsolatedVertices,
+    CountsFinishedBeyondTheRange,
+    CountsSharedFacesTwice,
+    LeavesNumbersOnRefusal,
+    LooksAtTheIndexWidth,
+    WantsTheWholeFile,
+    IsOfAnotherVersion,
 }
 
 use Faulty::*;
 
 impl Kernel for Faulty {
+    fn version(&self) -> u32 {
+        Oracle.version() + u32::from(*self == IsOfAnotherVersion)
+    }
+
+    fn finished_counts(&self, mesh: &Mesh, rounds: u32, working: &mut [u32]) -> CountsAnswer {
+        let mut answer = Oracle.finished_counts(mesh, rounds, working);
+        match self {
+            CountsRoundsBeforeIsolatedVertices if answer.refusal == 8 && rounds > 8 => answer.refusal = 9,
+            CountsFinishedBeyondTheRange if answer.refusal == 10 => answer.refusal = 0,
+            CountsSharedFacesTwice if answer.refusal == 0 && rounds > 0 && mesh.cell_count(2) > 0 => {
+                answer.counts.vertices += 1;
+            }
+            LeavesNumbersOnRefusal if answer.refusal > 4 => working.iter_mut().take(1).for_each(|number| *number = 1),
+            _ => {}
+        }
+        answer
+    }
+
     fn refine(&self, mesh: &Mesh, rounds: u32, lent: &mut Lent) -> CountsAnswer {
         let mut answer = Oracle.refine(mesh, rounds, lent);
         match self {
@@ -50,6 +75,14 @@ impl Kernel for Faulty {
 
     fn millimetres(&self, coordinates: [i32; 3]) -> MillimetresAnswer {
         Oracle.millimetres(coordinates)
+    }
+
+    fn stored_counts(&self, bytes: &[u8]) -> CountsAnswer {
+        let whole = Oracle.read(bytes, &mut Mesh::default());
+        match (self, whole.refusal) {
+            (LooksAtTheIndexWidth, 15) | (WantsTheWholeFile, 13) => whole,
+            _ => Oracle.stored_counts(bytes),
+        }
     }
 
     fn read(&self, bytes: &[u8], tables: &mut Mesh) -> CountsAnswer {
@@ -98,6 +131,9 @@ fn the_oracle_passes_against_itself() {
         "checks",
         "irregular",
         "millimetres",
+        "finished",
+        "limits of rounds",
+        "counts in headers",
         "reading",
         "writing",
         "C path",
@@ -121,6 +157,13 @@ fn each_fault_is_found() {
         (CountsRegularVertices, "irregular"),
         (ReadsBeforeTheLastCorner, "reading damaged"),
         (WritesAByteMore, "writing"),
+        (CountsRoundsBeforeIsolatedVertices, "finished counts"),
+        (CountsFinishedBeyondTheRange, "limits of rounds"),
+        (CountsSharedFacesTwice, "finished counts"),
+        (LeavesNumbersOnRefusal, "every length for finished counts"),
+        (LooksAtTheIndexWidth, "counts in headers"),
+        (WantsTheWholeFile, "counts in headers"),
+        (IsOfAnotherVersion, "finished counts"),
     ];
     for (fault, group) in faults {
         assert!(run(fault, group).0 > 0, "{fault:?} is not found by '{group}'");

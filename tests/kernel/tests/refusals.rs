@@ -1,4 +1,4 @@
-//! Every refusal, alone and in its order, at every entry point (document 01, "Refused meshes and files").
+//! Every refusal, alone and in its order, at every entry point (sections 7 and 9 of docs/SPECIFICATION.md).
 
 use oracle::checks::{check_mesh, check_refining};
 use oracle::entries::{Kernel, Lent, Oracle};
@@ -111,6 +111,70 @@ fn every_length_is_required_even_for_0_rounds() {
             assert!(memory.numbers32.iter().all(|&number| number == 0) && memory.working.hexes.iter().all(|&c| c == 0));
         }
     }
+}
+
+/// The counts of an accepted answer, or the refusal; after a refusal the counts are 0 and the numbers zero all the same.
+fn finished(mesh: &Mesh, rounds: u32) -> Result<[u32; 5], u32> {
+    let mut numbers = [7; 9];
+    let answer = Oracle.finished_counts(mesh, rounds, &mut numbers);
+    assert_eq!(numbers, [0; 9]);
+    assert!(answer.refusal == 0 || answer.counts == Counts::default());
+    if answer.refusal == 0 {
+        Ok(answer.counts.list())
+    } else {
+        Err(answer.refusal)
+    }
+}
+
+#[test]
+fn finished_counts_check_1_to_10_and_no_buffer() {
+    assert_eq!(finished(&p8(), 0), Ok([8, 1, 0, 0, 0]));
+    assert_eq!(finished(&p9(), 1), Ok([27, 8, 24, 0, 0]));
+    assert_eq!(finished(&p8(), 5), Ok([35_937, 32_768, 0, 0, 0]));
+    assert_eq!((finished(&p8(), 6), finished(&p8(), 9), finished(&p8(), u32::MAX)), (Err(10), Err(9), Err(9)));
+    assert_eq!(finished(&Mesh { vertices: vec![0; 9], ..p1() }, 255), Err(8));
+    assert_eq!(finished(&Mesh { vertices: vec![1; 4], ..p1() }, 9), Err(1));
+    assert_eq!(finished(&Mesh { vertices: vec![], ..p1() }, 9), Err(2));
+    assert_eq!(finished(&Mesh { vertices: vec![1 << 29; 3], ..p1() }, 9), Err(3));
+    assert_eq!(finished(&Mesh { vertices: vec![1; 3], ..p1() }, 9), Err(4));
+    assert_eq!(finished(&Mesh { segments: vec![0, 0], ..p1() }, 9), Err(5));
+    assert_eq!(finished(&Mesh { segments: vec![0, 1, 1, 0], ..p1() }, 9), Err(6));
+    assert_eq!(finished(&Mesh { quads: vec![0, 2, 1, 3], ..p8() }, 9), Err(7));
+}
+
+/// Whatever refining would answer with enough memory, the finished counts answer.
+#[test]
+fn finished_counts_are_what_refining_answers() {
+    for case in 0..200 {
+        let mut random = Random::new(3_300 + case);
+        let mut mesh = valid_mesh(&mut random);
+        if case % 3 == 0 {
+            damage(&mut mesh, random.pick(&KINDS), &mut random);
+        }
+        let rounds = random.pick(&[0, 1, 9]);
+        let places = check_refining(&mesh, rounds).unwrap_or([0; 5]);
+        let answer = Oracle.refine(&mesh, rounds, &mut Lent::exactly(places));
+        assert_eq!(finished(&mesh, rounds).err().unwrap_or(0), answer.refusal);
+        assert_eq!(finished(&mesh, rounds).unwrap_or([0; 5]), answer.counts.list());
+    }
+}
+
+#[test]
+fn counts_in_a_header_check_13_14_2_alone() {
+    let counts = |bytes: &[u8]| {
+        let answer = Oracle.stored_counts(bytes);
+        (answer.refusal, answer.counts.list())
+    };
+    let none = [0; 5];
+    let good = encode(&p9());
+    assert_eq!((counts(&good), counts(&good[..13])), ((0, [8, 1, 6, 0, 0]), (0, [8, 1, 6, 0, 0])));
+    assert_eq!((counts(&good[..12]), counts(&[])), ((13, none), (13, none)));
+    assert_eq!(counts(&[vec![0x20; 12], good.clone()].concat()), (14, none));
+    assert_eq!(counts(&header(2, 31, [0; 5])), (14, none));
+    assert_eq!(counts(&header(1, 31, [0; 5])), (2, none));
+    assert_eq!(counts(&header(1, 31, [1_000_001, 0, 0, 0, 0])), (2, none));
+    assert_eq!(counts(&header(1, 31, [1_000_000, 250_000, 1, 2, 250_000])), (0, [1_000_000, 250_000, 1, 2, 250_000]));
+    assert_eq!(counts(&header(1, 0, [1, 0, 250_001, 0, 0])), (2, none));
 }
 
 fn read(bytes: &[u8], places: [usize; 5]) -> u32 {

@@ -1,4 +1,4 @@
-//! Facts that follow from document 01, on random meshes: they would fail if the oracle misread a rule.
+//! Facts that follow from the rules, on random meshes: they would fail if the oracle misread a rule.
 
 use oracle::average::{holdings, refined, stages, Holding, Round};
 use oracle::cells::{smallest_part, Part};
@@ -45,7 +45,7 @@ fn finished_counts_follow_the_closed_form() {
 }
 
 #[test]
-fn a_round_multiplies_edges_and_faces_as_the_paper_says() {
+fn a_round_multiplies_edges_and_faces() {
     for mesh in meshes(3, 100) {
         let (coarse, fine) = (Parts::of(&mesh), Parts::of(&refined(&mesh, 1)));
         let (e, f, h) = (coarse.edges.len(), coarse.faces.len(), mesh.cell_count(3));
@@ -62,9 +62,10 @@ fn an_old_vertex_keeps_its_rank_and_valence() {
     }
 }
 
-/// Equation 2 of 000: an old vertex weighs 3 to the power (rank less the dimension of the smallest common part).
+/// The weights of rule 3.9, without its factor: in the sum of an old vertex a corner weighs 3 to the power (rank less the
+/// dimension of the smallest common part).
 #[test]
-fn old_vertices_follow_equation_2() {
+fn old_vertices_follow_the_weights_of_a_child() {
     for mesh in meshes(5, 150) {
         let (fine, held) = (refined(&mesh, 1), held(&mesh));
         for (vertex, holding) in held.iter().enumerate() {

@@ -1,4 +1,4 @@
-//! The foundry samples P1 to P12 and the samples that are run only (document 01).
+//! The samples P1 to P12 and those that are run only (section 11 of docs/SPECIFICATION.md).
 
 use oracle::average::{holdings, irregular_count, refined, stages, Round};
 use oracle::castings::{self, hub_blocks};
@@ -100,7 +100,7 @@ fn p12_has_the_ranks_of_the_source() {
 }
 
 #[test]
-fn the_listing_of_p1_is_the_papers() {
+fn the_listing_of_p1_is_as_specified() {
     let stored = encode(&p1());
     assert_eq!(stored.len(), 36);
     let text = "mesh 3 0 0 2 0\nv 0 2 0 0 1 1\nv 1 6 0 0 1 1\nv 2 4 0 0 1 2\ns 0 2\ns 2 1\n";

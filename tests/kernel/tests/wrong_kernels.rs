@@ -1,4 +1,4 @@
-//! Each known wrong kernel of document 01 differs from the rules on a sample, and on the one named for it.
+//! Each known wrong kernel (rule 11.15) differs from the rules on a sample, and on the one named for it.
 
 use oracle::mesh::Mesh;
 use oracle::samples::*;
@@ -45,7 +45,7 @@ fn wrong_kernels_are_right_where_nothing_is_rounded_or_shared() {
 
 /// P1 to P12 alone leave two of the wrong kernels standing, so the two further samples are needed.
 #[test]
-fn the_papers_samples_do_not_catch_every_wrong_kernel() {
+fn the_numbered_samples_do_not_catch_every_wrong_kernel() {
     let samples = [p1(), p2(), p3(), p5(), p6(), p7(), p8(), p9(), p12()];
     let caught: Vec<bool> = (0..6).map(|kernel| samples.iter().any(|mesh| differs(kernel, mesh))).collect();
     assert_eq!(caught, [true, false, true, true, false, true]);

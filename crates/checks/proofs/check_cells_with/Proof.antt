@@ -34,7 +34,7 @@ returns c =
     let r = i .before in
     let s = r .before .before .before .before .before .before in
     refused-is (meshOf s) (c .refused .result) (c .refused .ensures) (λ e. omega arith)
-    (rw (cells-decide (meshOf s) (passed s) 0, ← r .has-repeated-corner .ensures, i .if1 .taken))
+    (rw (cells-decide (meshOf s) (passed s) 0, ← r .has-repeated-corner .ensures, i .if1 .taken) refl)
 
 -- ---- 6 passes
 
@@ -51,7 +51,7 @@ returns-2 c =
     let e = d .before .before in
     let s = start-5 e in
     refused-is (meshOf s) (c .refused2 .result) (c .refused2 .ensures) (λ e. omega arith)
-    (rw (cells-decide (meshOf s) (passed s) 0, passes-5 e, ← d .has-duplicate-cell .ensures, i .if2 .taken))
+    (rw (cells-decide (meshOf s) (passed s) 0, passes-5 e, ← d .has-duplicate-cell .ensures, i .if2 .taken) refl)
 
 check-faces-requires : tie.Need-check-faces-requires
 check-faces-requires c κs = let e = before-6 (c .before) in fewer-tables (meshOf (start-5 e)) (passes-5 e)
@@ -76,7 +76,7 @@ returns-3 c =
       passes-6 d,
       mismatched-tables (meshOf s),
       faces-mismatch (a .hexes .now) (a .quads .now) (a .segments .now) (f .check-faces .result) (t .enum-told .given .1) (f .check-faces .ensures),
-    ))
+    ) refl)
 
 abbrev faces-7 : tie.After-known-told → tie.After-check-faces
 faces-7 c = c .before .before .before .before .before
@@ -118,7 +118,7 @@ returns-4 c =
       counted-7 k .0,
       ← v .has-isolated-vertex .ensures,
       i .if3 .taken,
-    ))
+    ) refl)
 
 returns-5 : tie.Need-returns-5
 returns-5 c =

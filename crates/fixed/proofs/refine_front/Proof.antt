@@ -2,7 +2,7 @@
 use mathlib.Core.Path.{sym}
 use lib.Seq.{length-take-le}
 use borrow.Author.Needs.{needs}
-use Rattle.refine.specs.Front.{frontOf}
+use Rattle.rules.specs.EntryPoints.{frontOf}
 use Rattle.fixed.proofs.refine_front.Statement.{statement}
 use Rattle.fixed.proofs.refine_front.Tie as tie
 

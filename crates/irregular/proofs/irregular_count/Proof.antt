@@ -13,6 +13,13 @@ use Rattle.irregular.proofs.irregular_count.Tie as tie
 abbrev meshOf : tie.Start → Mesh
 meshOf s = mesh (s .args .xs .now) (s .args .hexes .now) (s .args .quads .now) (s .args .segments .now) (s .args .points .now)
 
+-- an answer by its fields
+made : (a : CountAnswer) (r n : ℕ) → a .refusal ≡ r → a .count ≡ n → _≡_ {A = CountAnswer} a (record { refusal = r; count = n })
+made a r n p q = ap (λ x. make x (a .count)) p ∙ ap (make r) q
+  where
+    make : ℕ → ℕ → CountAnswer
+    make x y = record { refusal = x; count = y }
+
 -- the answer, by the refusal
 refused : (m : Mesh) (r : ℕ) → r ≡ meshChecks m 0 → (r ≡ 0 → ⊥) → _≡_ {A = CountAnswer} (record { refusal = r; count = 0 }) (irregularAnswer m)
 unfolding irregularAnswer
@@ -33,8 +40,9 @@ returns c =
     let i = z .before .before in
     let r = i .before .before .before in
     let s = r .before .before .before .before .before .before .before in (
-      refused (meshOf s) (r .check-mesh .result .refusal) (r .check-mesh .ensures .refusal) (i .if1 .taken),
-      z .clear-u32 .ensures ∙ ap (λ (n : ℕ). replicate n 0) (r .check-mesh .kept .1 .1 .1 .1 .1 .0),
+      made (z .answer .result) (r .check-mesh .result .refusal) 0 (z .answer .ensures .0 .0) (z .answer .ensures .0 .1)
+          ∙ refused (meshOf s) (r .check-mesh .result .refusal) (r .check-mesh .ensures .refusal) (i .if1 .taken),
+      z .answer .ensures .1 ∙ ap (λ (n : ℕ). replicate n 0) (r .check-mesh .kept .1 .1 .1 .1 .1 .0),
     )
 
 returns-2 : tie.Need-returns-2
@@ -44,8 +52,9 @@ returns-2 c =
     let i = n .before .before in
     let r = i .before .before .before in
     let s = r .before .before .before .before .before .before .before in (
-      answered (meshOf s) (n .count .result) (sym (r .check-mesh .ensures .refusal) ∙ i .if1 .left) (n .count .ensures),
-      z .clear-u322 .ensures ∙ ap (λ (n : ℕ). replicate n 0) (n .count .kept .1 .1 .1 .1 .1 .0 ∙ r .check-mesh .kept .1 .1 .1 .1 .1 .0),
+      made (z .answer2 .result) 0 (n .count .result) (z .answer2 .ensures .0 .0) (z .answer2 .ensures .0 .1)
+          ∙ answered (meshOf s) (n .count .result) (sym (r .check-mesh .ensures .refusal) ∙ i .if1 .left) (n .count .ensures),
+      z .answer2 .ensures .1 ∙ ap (λ (n : ℕ). replicate n 0) (n .count .kept .1 .1 .1 .1 .1 .0 ∙ r .check-mesh .kept .1 .1 .1 .1 .1 .0),
     )
 
 pub irregular-count-spec : {M : Type 1} → statement M

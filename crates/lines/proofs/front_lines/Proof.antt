@@ -2,7 +2,7 @@
 use mathlib.Core.Path.{sym}
 use lib.Seq.{length-take-le}
 use borrow.Author.Needs.{needs}
-use Rattle.refine.specs.Front.{frontOf}
+use Rattle.rules.specs.EntryPoints.{frontOf}
 use Rattle.lines.proofs.front_lines.Statement.{statement}
 use Rattle.lines.proofs.front_lines.Tie as tie
 

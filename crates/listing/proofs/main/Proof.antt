@@ -14,8 +14,8 @@ at-front : (n : ℕ) (old new bytes : List ℕ) → n ≡ length bytes → new �
 unfolding overwritten
 at-front n old new bytes e f = rw f (omega (arith, length-append bytes (drop (length bytes) old)))
 
-within : (c : tie.After-listing) → c .listing .result ≤ length (c .listing .last .1 .0)
-within c = at-front _ _ _ _ (c .listing .ensures .0) (c .listing .ensures .1)
+within : (c : tie.After-lines) → c .lines .result ≤ length (c .lines .last .1 .1 .0)
+within c = at-front _ _ _ _ (c .lines .ensures .0) (c .lines .ensures .1)
 
 pub main-spec : {M : Type 1} → statement M
 main-spec =
@@ -23,8 +23,6 @@ main-spec =
     (tie.spec
     (λ c. search needs)
     (λ c κs. search needs)
-    (λ c. search needs)
-    (λ c. search needs)
     (λ c κs. search needs)
     within
     (λ c. sym (length-take-le _ _ (within (c .before))))

@@ -3,19 +3,27 @@ use mathlib.Core.Path.{_∙_}
 use borrow.Author.Needs.{needs}
 use denote.Ref.{now}
 use Rattle.rules.specs.Mesh.{mesh}
-use Rattle.refine.proofs.Lending.{output-accurate, output-in-range, cleared-same, tables-same}
+use Rattle.refine.proofs.Written.{output-accurate, output-in-range, cleared-same, tables-same}
 use Rattle.refine.proofs.refine.Statement.{statement}
 use Rattle.refine.proofs.refine.Tie as tie
 
--- from the return back to the clearing, from there to the run, and to the start
+-- from the return back to the clearing
 abbrev emptied : tie.After-slice-known26 → tie.After-clear
-emptied c = c .before .before .before .before .before .before .before .before .before .before .before .before .before
+emptied c = let q = c .before .before .before .before .before .before in q .before .before .before .before .before .before .before
+
+-- from the clearing back to the run: first the working memory, then the output tables
+abbrev worked : tie.After-clear → tie.After-slice-known14
+worked k = let l = k .before .before .before .before .before .before .before .before in let q = l .before .before .before .before .before .before .before .before in q .before .before .before .before .before
 
 abbrev called : tie.After-clear → tie.After-run
-called k = k .before .before .before .before .before .before .before .before .before .before .before .before .before .before .before .before .before .before .before .before .before .before .before .before .before .before .before .before .before .before
+called k = worked k .before .before .before .before .before .before .before .before .before
+
+-- from the run back to the start
+abbrev lent : tie.After-run → tie.After-slice-known10
+lent r = let q = r .before .before .before .before .before .before .before in q .before .before .before .before .before .before
 
 abbrev start : tie.After-run → tie.Start
-start r = r .before .before .before .before .before .before .before .before .before .before .before .before .before .before .before .before .before .before .before .before .before .before .before .before .before .before .before
+start r = let q = lent r .before .before .before .before .before in q .before .before .before .before .before .before .before .before .before
 
 returns : tie.Need-returns
 returns c =

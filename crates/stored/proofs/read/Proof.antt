@@ -5,6 +5,7 @@ use mathlib.Core.Bool.{Bool}
 use Rattle.rules.specs.Mesh.{Mesh, mesh}
 use Rattle.rules.specs.Counts.{countsOf, fewer}
 use Rattle.rules.specs.StoredForm.{headerOf}
+use Rattle.bits.specs.Writing.{Bytes}
 use Rattle.stored.specs.declared.header.Head.the-variants as H
 use Rattle.stored.specs.Reading.{headOf, answerOf, fileChecks}
 use Rattle.stored.proofs.Answers.{file-refused, counts-read, tables-refused, accepted-reading, accepted-answer, accepted-output, promised-bytes}
@@ -18,6 +19,10 @@ lent c = let a = c .args in mesh (a .xs .now) (a .hexes .now) (a .quads .now) (a
 abbrev start : tie.After-check-file → tie.Start
 start c = c .before .before .before .before .before .before
 
+-- the file is made of bytes
+bytes : (c : tie.After-check-file) → Bytes (start c .args .bytes .now)
+bytes c i = c .before .before .before .before .before .shared-slice-known .given i .fits
+
 returns : tie.Need-returns
 returns c =
     let told = c .before .enum-told .given .1 in
@@ -26,7 +31,7 @@ returns c =
     let t = lent (start check) in
     let r = file-refused s t (sym (check .check-file .ensures) ∙ told) in
     let answer = c .answer-of .ensures ∙ ap answerOf told ∙ r .answer in
-    (answer, (r .output, promised-bytes s t _ answer (λ i. check .before .before .before .before .before .shared-slice-known .given i .fits)))
+    (answer, (r .output, promised-bytes s t _ _ answer (r .output) (bytes check)))
 
 -- the file passed its checks
 passed : (c : tie.After-known-told)
@@ -47,7 +52,7 @@ returns-2 c =
     let t = lent (start check) in
     let r = tables-refused s t _ (passed (short .before)) (room short _ (c .before .if1 .taken)) in
     let answer = c .answer-of2 .ensures ∙ r .answer in
-    (answer, (r .output, promised-bytes s t _ answer (λ i. check .before .before .before .before .before .shared-slice-known .given i .fits)))
+    (answer, (r .output, promised-bytes s t _ _ answer (r .output) (bytes check)))
 
 store-tables-requires : tie.Need-store-tables-requires
 store-tables-requires c κs =
@@ -58,9 +63,13 @@ store-tables-requires c κs =
     let t = lent (start check) in
     (counts-read s t _ (passed (short .before)), accepted-reading s t _ (passed (short .before)) (room short _ (at-if .if1 .left)))
 
+-- the tables as they were stored
+abbrev after-store : tie.After-points → tie.After-store-tables
+after-store c = c .before .before .before .before .before .before .before .before
+
 returns-3 : tie.Need-returns-3
 returns-3 c =
-    let store = c .before .before .before .before .before .before .before .before .before .before in
+    let store = after-store (c .before .before) in
     let at-if = store .before .before .before .before .before .before in
     let short = at-if .before in
     let check = short .before .before .before .before in
@@ -68,7 +77,8 @@ returns-3 c =
     let t = lent (start check) in
     let free = room short _ (at-if .if1 .left) in
     let answer = c .answer-of3 .ensures ∙ accepted-answer s t _ (passed (short .before)) free in
-    (answer, (store .store-tables .ensures ∙ accepted-output s t _ (passed (short .before)) free, promised-bytes s t _ answer (λ i. check .before .before .before .before .before .shared-slice-known .given i .fits)))
+    let output = store .store-tables .ensures ∙ accepted-output s t _ (passed (short .before)) free in
+    (answer, (output, promised-bytes s t _ _ answer output (bytes check)))
 
 pub read-spec : {M : Type 1} → statement M
 read-spec =

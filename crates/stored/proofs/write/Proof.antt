@@ -28,7 +28,7 @@ returns : tie.Need-returns
 returns c =
     let s = start (c .before) in
     let r = mesh-refused (whole s) (s .args .buffer .now) _ (c .before .table-refusal .ensures) (c .if1 .taken) in
-    (r .answer, (r .output, promised-mesh (whole s) (s .args .buffer .now) _ (r .answer)))
+    (r .answer, (r .output, promised-mesh (whole s) (s .args .buffer .now) _ _ (r .answer) (r .output)))
 
 -- the checks 1 to 4 passed
 passed : (c : tie.Else1) → tableChecks (whole (start (c .before))) 0 ≡ 0
@@ -63,7 +63,7 @@ returns-2 c =
     let s = start (else1 .before) in
     let d = s .args .buffer .now in
     let r = buffer-refused (whole s) d (accepted else1) (subst (λ (n : ℕ). length d < n) (bytes at) (c .if2 .taken)) in
-    (r .answer, (r .output, promised-mesh (whole s) d _ (r .answer)))
+    (r .answer, (r .output, promised-mesh (whole s) d _ _ (r .answer) (r .output)))
 
 put-mesh-requires : tie.Need-put-mesh-requires
 put-mesh-requires c κs =
@@ -83,7 +83,8 @@ returns-3 c =
     let d = s .args .buffer .now in
     let r = accepted-writing (whole s) d (accepted else1) (subst (λ (n : ℕ). n ≤ length d) (bytes at) (at-if .if2 .left)) in
     let answer = ap (λ (n : ℕ). record { refusal = 0; count = n }) (bytes at) ∙ r .answer in
-    (answer, (put .put-mesh .ensures ∙ r .output, promised-mesh (whole s) d _ answer))
+    let output = put .put-mesh .ensures ∙ r .output in
+    (answer, (output, promised-mesh (whole s) d _ _ answer output))
 
 pub write-spec : {M : Type 1} → statement M
 write-spec =

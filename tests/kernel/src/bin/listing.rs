@@ -1,4 +1,4 @@
-//! The listing program of document 01, run by the oracle: for comparing its text with the kernel's.
+//! The listing program (section 10 of docs/SPECIFICATION.md), run by the oracle: for comparing its text with the kernel's.
 
 use std::io::{Read, Write};
 

@@ -36,6 +36,16 @@ impl Answer for (u32, [u64; 3]) {
     }
 }
 
+/// The version, which is never refused.
+#[derive(Debug, PartialEq)]
+pub struct Version(pub u32);
+
+impl Answer for Version {
+    fn refusal(&self) -> u32 {
+        0
+    }
+}
+
 pub trait Memory: Clone {
     /// The first place where the memory found differs from the memory wanted, which has the same lengths.
     fn difference(wanted: &Self, found: &Self) -> Option<String>;

@@ -33,6 +33,7 @@ pub fn limits(comparison: &mut Comparison) {
     }
     for hexes in [93_750, 93_751] {
         comparison.refine(&blocks_and_points(hexes, 250_000), 0, &memory);
+        comparison.finished_counts(&blocks_and_points(hexes, 250_000), 0, &memory.numbers32);
     }
     finished_limits(comparison);
     stored_limits(comparison);
@@ -69,6 +70,7 @@ fn finished_limits(comparison: &mut Comparison) {
     let memory = working_numbers_only();
     for (hexes, points) in [(31_250, 156_250), (31_250, 156_251), (31_251, 0)] {
         comparison.refine(&blocks_and_points(hexes, points), 1, &memory);
+        comparison.finished_counts(&blocks_and_points(hexes, points), 1, &memory.numbers32);
     }
     let chain = |count: u32| Mesh {
         vertices: (0..3 * (count as i32 + 1)).collect(),

@@ -99,6 +99,7 @@ pub fn large_in_short_memory(comparison: &mut Comparison) {
         for length in [0, 1, 8191, 8192, 8193, 20_000, 100_000] {
             let working = lent::noisy_numbers(length, &mut random);
             comparison.irregular_count(&mesh, &working);
+            comparison.finished_counts(&mesh, 1, &working);
             comparison.refine(&mesh, 1, &Lent { numbers32: working, ..Lent::default() });
         }
     }

@@ -3,6 +3,8 @@
 pub mod c_path;
 pub mod counting;
 pub mod difference;
+pub mod finished;
+pub mod headers;
 pub mod large;
 pub mod listing;
 pub mod memory;
@@ -14,7 +16,7 @@ pub mod tally;
 use crate::answers::Position;
 use crate::entries::{Kernel, Lent, Oracle};
 use crate::mesh::Mesh;
-use difference::{digits, outline, Answer, Memory};
+use difference::{digits, outline, Answer, Memory, Version};
 use tally::Tally;
 
 /// One kernel under test and what has been found so far.
@@ -31,7 +33,7 @@ pub struct Comparison<'a> {
 pub type Group = fn(&mut Comparison);
 
 /// The groups of cases by name.
-pub const GROUPS: [(&str, Group); 19] = [
+pub const GROUPS: [(&str, Group); 23] = [
     ("samples", refining::samples),
     ("valid meshes", refining::valid_meshes),
     ("damaged meshes", refining::damaged_meshes),
@@ -40,10 +42,14 @@ pub const GROUPS: [(&str, Group); 19] = [
     ("every length of a mesh's tables", memory::every_length_of_tables),
     ("every length of tables to read into", stored::every_length),
     ("every length on the C path", c_path::every_length),
+    ("every length for finished counts", finished::every_length),
     ("checks in short memory", memory::checks_in_short_memory),
     ("large meshes in short memory", memory::large_in_short_memory),
     ("irregular counts", counting::irregular_counts),
     ("millimetres", counting::millimetres),
+    ("finished counts", finished::finished_counts),
+    ("limits of rounds", finished::limits_of_rounds),
+    ("counts in headers", headers::stored_counts),
     ("reading", stored::reading),
     ("reading damaged files", stored::reading_damaged),
     ("writing", stored::writing),
@@ -79,6 +85,16 @@ impl<'a> Comparison<'a> {
         self.tally.judge(wanted.refusal(), problem, name);
     }
 
+    pub fn version(&mut self) {
+        self.both(|| "version".into(), &(), |kernel, _| Version(kernel.version()));
+    }
+
+    pub fn finished_counts(&mut self, mesh: &Mesh, rounds: u32, working: &[u32]) {
+        let name =
+            || format!("finished counts, {rounds} rounds, {} working numbers, of {}", working.len(), outline(mesh));
+        self.both(name, &working.to_vec(), |kernel, memory| kernel.finished_counts(mesh, rounds, memory));
+    }
+
     pub fn refine(&mut self, mesh: &Mesh, rounds: u32, lent: &Lent) {
         let name = || format!("refining {rounds} rounds of {}", outline(mesh));
         self.both(name, lent, |kernel, memory| kernel.refine(mesh, rounds, memory));
@@ -87,6 +103,11 @@ impl<'a> Comparison<'a> {
     pub fn irregular_count(&mut self, mesh: &Mesh, working: &[u32]) {
         let name = || format!("irregular count, {} working numbers, of {}", working.len(), outline(mesh));
         self.both(name, &working.to_vec(), |kernel, memory| kernel.irregular_count(mesh, memory));
+    }
+
+    pub fn stored_counts(&mut self, bytes: &[u8]) {
+        let name = || format!("counts in the header of {}", digits(bytes));
+        self.both(name, &(), |kernel, _| kernel.stored_counts(bytes));
     }
 
     pub fn read(&mut self, bytes: &[u8], tables: &Mesh) {

@@ -17,6 +17,7 @@ pub fn tables(comparison: &mut Comparison) {
         let rounds = random.pick(&[0, 1, 2, 8, 9, any]);
         comparison.refine(&mesh, rounds, &lent::any(&mut random));
         let length = random.below(500);
+        comparison.finished_counts(&mesh, rounds, &lent::noisy_numbers(length, &mut random));
         comparison.irregular_count(&mesh, &lent::noisy_numbers(length, &mut random));
         comparison.write(&mesh, &lent::noisy_bytes(3 * length, &mut random));
     }
@@ -37,9 +38,10 @@ pub fn files(comparison: &mut Comparison) {
     }
 }
 
-/// One file at the three entry points that take files.
+/// One file at the entry points that take files.
 fn file(comparison: &mut Comparison, bytes: &[u8], random: &mut Random) {
     let places = random.pick(&[[0; 5], [9, 1, 6, 8, 4], [1000, 256, 256, 256, 256]]);
+    comparison.stored_counts(bytes);
     comparison.read(bytes, &Mesh::zeros(places));
     let any = random.bits() as u32;
     let rounds = random.pick(&[0, 1, 2, 9, any]);

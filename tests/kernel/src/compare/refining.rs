@@ -13,15 +13,15 @@ use crate::samples::*;
 /// Finished meshes are kept below so many vertices, for speed.
 const MOST_FINISHED: usize = 4000;
 
-/// The paper's samples and those at the ends of the range, through every number of rounds that stays small, and through
+/// The samples of section 11 and those at the ends of the range, through every number of rounds that stays small, and through
 /// too many.
 pub fn samples(comparison: &mut Comparison) {
     let touching = [uneven_segments(), touching_segments(), lone_point([7, -7, 1]), Mesh::default()];
     let ends = [span(), pinned_span(), low_hub(), wide_cube()];
     let larger = [hub_blocks(), hub(), bracket()];
-    let paper = [p1(), p2(), p3(), p5(), p6(), p7(), p8(), p9(), p11(257), p12()];
+    let samples = [p1(), p2(), p3(), p5(), p6(), p7(), p8(), p9(), p11(257), p12()];
     let mut random = Random::new(11);
-    for mesh in paper.iter().chain(&touching).chain(&ends).chain(&larger) {
+    for mesh in samples.iter().chain(&touching).chain(&ends).chain(&larger) {
         for rounds in 0..=10 {
             let finished = check_refining(mesh, rounds).unwrap_or(mesh.places());
             if finished[0] <= 40_000 {

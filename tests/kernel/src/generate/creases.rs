@@ -1,4 +1,4 @@
-//! Random creases: faces as quads, edges as segments, vertices as points (000, 3.2).
+//! Random creases: faces as quads, edges as segments, vertices as points (rule 1.12).
 
 use crate::cells::corner_set;
 use crate::mesh::Mesh;

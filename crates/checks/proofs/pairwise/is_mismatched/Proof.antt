@@ -1,5 +1,5 @@
 -- `checks::pairwise::is_mismatched` meets its contract. Assumes nothing.
-use mathlib.Core.Path.{sym, ap, _∙_}
+use mathlib.Core.Path.{refl, sym, ap, _∙_}
 use borrow.Author.Needs.{needs}
 use borrow.Author.Tests.{not-true, not-false}
 use Rattle.soundness.specs.Across.{across}
@@ -33,7 +33,7 @@ returns-2 c =
       not-false (b .same-parts .result) (f .before .if1 .left),
       first,
       second,
-    )
+    ) refl
 
 pub is-mismatched-spec : {M : Type 1} → statement M
 is-mismatched-spec =

@@ -1,6 +1,7 @@
 -- `lines::rows::append_mesh_line` meets its contract. Assumes nothing.
 use mathlib.Core.List.{[], _∷_}
 use borrow.Author.Needs.{needs}
+use Rattle.rules.specs.Text.{text}
 use Rattle.rules.specs.Listing.{line, meshLine}
 use Rattle.lines.proofs.Runs.{_then_, room-first, room-rest}
 use Rattle.lines.proofs.rows.append_mesh_line.Statement.{statement}
@@ -12,7 +13,7 @@ append-mesh-line-spec =
     tie.close
     (tie.spec
     (λ c. search needs)
-    (λ c κs. room-first (109 ∷ 101 ∷ 115 ∷ 104 ∷ []) _ (c .before .before .before .pre))
+    (λ c κs. room-first (text "mesh") _ (c .before .before .before .pre))
     (λ c. search needs)
     (λ c κs. room-rest _ (c .before .before .before .before .append-word .ensures) (c .before .before .before .before .before .before .before .before .pre))
     (λ c. search needs)

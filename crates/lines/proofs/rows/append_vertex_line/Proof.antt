@@ -9,6 +9,7 @@ use mir.Syntax.{w32}
 use mir.Val.{toZ, ofZ}
 use mir.Facts.{toZ-ofZ}
 use Rattle.rules.specs.Mesh.{Mesh, mesh, topology}
+use Rattle.rules.specs.Text.{text}
 use Rattle.rules.specs.Listing.{decimal, signedDecimal, line, vertexLine}
 use Rattle.lines.proofs.Fields.{vertex-line, rank-without, valence-without}
 use Rattle.lines.proofs.rows.append_vertex_line.Statement.{statement}
@@ -21,7 +22,7 @@ given s = mesh (s .args .xs .now) (s .args .hexes .now) (s .args .quads .now) (s
 printed : (c : tie.After-append-vertex-arg3) →
     let s = c .before .before .before .before .before .before .before .before .before in
     let r = c .before .before .before .rank-of .result in
-    line (118 ∷ [])
+    line (text "v")
     (decimal (s .args .v)
     ∷ signedDecimal (toZ w32 (ofZ w32 (getD (s .args .xs .now) (3 * s .args .v) (pos 0))))
     ∷ signedDecimal (toZ w32 (ofZ w32 (getD (s .args .xs .now) (3 * s .args .v + 1) (pos 0))))
@@ -58,6 +59,6 @@ append-vertex-line-spec =
     (λ c. search needs)
     (λ c. search needs)
     (λ c. search needs)
-    (λ c κs. rw (printed (c .before)) (c .before .before .before .before .before .before .before .before .before .before .pre .1))
+    (λ c κs. let read = c .before in rw (printed read) (read .before .before .before .before .before .before .before .before .before .pre .1))
     (λ c. search needs)
     (λ c. rw (printed (c .before .before .before .before)) at (c .before .before .append-vertex .ensures)))

@@ -9,6 +9,7 @@ use Rattle.rules.specs.declared.Counts.{Counts}
 use Rattle.rules.specs.Lists.{concatMap, cut, upFrom}
 use Rattle.rules.specs.Mesh.{Mesh, mesh, topology}
 use Rattle.rules.specs.Counts.{countsOf}
+use Rattle.rules.specs.Text.{text}
 use Rattle.rules.specs.Listing.{meshLine, vertexLine, cellLines, meshLines}
 use Rattle.lines.specs.Appended.{Room}
 use Rattle.lines.proofs.Runs.{_then_, room-first, room-rest, append-front}
@@ -27,7 +28,7 @@ runs m n =
       points = n;
     })
     ++ (concatMap (vertexLine m (topology m)) (upFrom 0 (length (m .vertices) / 3))
-    ++ (cellLines 104 (cut 8 (m .hexes)) ++ (cellLines 113 (cut 4 (m .quads)) ++ (cellLines 115 (cut 2 (m .segments)) ++ cellLines 112 (cut 1 (m .points))))))
+    ++ (cellLines (text "h") (cut 8 (m .hexes)) ++ (cellLines (text "q") (cut 4 (m .quads)) ++ (cellLines (text "s") (cut 2 (m .segments)) ++ cellLines (text "p") (cut 1 (m .points))))))
 
 runs-are : (m : Mesh) → runs m (length (m .points)) ≡ meshLines m
 unfolding meshLines countsOf topology

@@ -6,8 +6,7 @@ use lib.Seq.{length-take-le}
 use mir.Facts.{toZ-ofZ}
 use borrow.Author.Needs.{needs}
 use Rattle.rules.specs.Mesh.{mesh}
-use Rattle.refine.specs.Front.{frontOf}
-use Rattle.fixed.specs.Front.{front}
+use Rattle.rules.specs.EntryPoints.{frontOf, front}
 use Rattle.mlca.proofs.Numbers.{irregular-fits}
 use Rattle.mlca.proofs.Calls.{irregular-number}
 use Rattle.mlca.proofs.viewer.count_front.Statement.{statement}

@@ -18,7 +18,7 @@ tables = mesh (replicate 3_000 (pos 0)) (replicate 2_048 0) (replicate 1_024 0) 
 -- what the call of `read` promised
 read-done : (d : tie.After-read) →
     Reading
-    (d .before .before .before .before .before .before .before .args .bytes .now)
+    (d .before .before .before .before .before .before .before .args .stored .now)
     tables
     (mesh (d .read .last .1 .0) (d .read .last .1 .1 .0) (d .read .last .1 .1 .1 .0) (d .read .last .1 .1 .1 .1 .0) (d .read .last .1 .1 .1 .1 .1 .0))
     (d .read .result)

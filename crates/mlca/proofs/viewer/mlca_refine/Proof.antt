@@ -8,6 +8,7 @@ use Rattle.rules.specs.Mesh.{Mesh, mesh}
 use Rattle.rules.specs.Counts.{countsOf}
 use Rattle.fixed.proofs.Finished.{Refining, finished-front, finished-room}
 use Rattle.mlca.proofs.Calls.{refining-refused, refining-kept, written-answer, written-output}
+use Rattle.mlca.proofs.Promised.{promised}
 use Rattle.mlca.proofs.viewer.mlca_refine.Statement.{statement}
 use Rattle.mlca.proofs.viewer.mlca_refine.Tie as tie
 
@@ -18,7 +19,7 @@ tables = mesh (replicate 3_000 (pos 0)) (replicate 2_048 0) (replicate 1_024 0) 
 -- what the call of `refine_stored` promised
 refined-done : (d : tie.After-refine-stored) →
     let s = d .before .before .before .before .before .before .before .before in
-    Refining (s .args .bytes .now) (s .args .rounds) tables
+    Refining (s .args .stored .now) (s .args .rounds) tables
     (mesh (d .refine-stored .last .1 .1 .0) (d .refine-stored .last .1 .1 .1 .0) (d .refine-stored .last .1 .1 .1 .1 .0) (d .refine-stored .last .1 .1 .1 .1 .1 .0) (d .refine-stored .last .1 .1 .1 .1 .1 .1 .0))
     (d .refine-stored .result)
 refined-done d = record { answer = d .refine-stored .ensures .0; output = d .refine-stored .ensures .1 }
@@ -32,8 +33,9 @@ returns c =
     let i = c .before in
     let a = i .before .before .before .before .before .before in
     let d = refined-done a in
-    let buffer = a .before .before .before .before .before .before .before .before .args .result .now in
-    (toZ-ofZ (record { sfits = c .signed .ok }) ∙ c .signed .ensures ∙ refining-refused d buffer (i .if1 .taken), refining-kept d buffer (i .if1 .taken))
+    let start = a .before .before .before .before .before .before .before .before .args in
+    let buffer = start .result .now in
+    promised (start .stored .now) (start .rounds) buffer (toZ-ofZ (record { sfits = c .signed .ok }) ∙ c .signed .ensures ∙ refining-refused d buffer (i .if1 .taken)) (refining-kept d buffer (i .if1 .taken))
 
 write-front-requires : tie.Need-write-front-requires
 write-front-requires c κs =
@@ -46,9 +48,10 @@ returns-2 c =
     let i = w .before .before .before .before .before .before .before .before in
     let a = i .before .before .before .before .before .before in
     let d = refined-done a in
-    let buffer = a .before .before .before .before .before .before .before .before .args .result .now in
+    let start = a .before .before .before .before .before .before .before .before .args in
+    let buffer = start .result .now in
     let e = rw (finished-front d (i .if1 .left)) at (w .write-front .ensures) in
-    (toZ-ofZ (record { sfits = w .write-front .ok }) ∙ e .0 ∙ written-answer d buffer (i .if1 .left), e .1 ∙ written-output d buffer (i .if1 .left))
+    promised (start .stored .now) (start .rounds) buffer (toZ-ofZ (record { sfits = w .write-front .ok }) ∙ e .0 ∙ written-answer d buffer (i .if1 .left)) (e .1 ∙ written-output d buffer (i .if1 .left))
 
 pub mlca-refine-spec : {M : Type 1} → statement M
 mlca-refine-spec =

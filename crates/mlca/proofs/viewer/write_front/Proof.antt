@@ -4,7 +4,7 @@ use native.Mathlib.Omega.{arith}
 use lib.Seq.{length-take-le}
 use mir.Facts.{toZ-ofZ}
 use borrow.Author.Needs.{needs}
-use Rattle.refine.specs.Front.{frontOf}
+use Rattle.rules.specs.EntryPoints.{frontOf}
 use Rattle.mlca.proofs.Numbers.{bytes-fit}
 use Rattle.mlca.proofs.Calls.{writing-number}
 use Rattle.mlca.proofs.viewer.write_front.Statement.{statement}

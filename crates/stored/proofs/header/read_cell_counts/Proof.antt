@@ -1,43 +1,49 @@
 -- `stored::header::read_cell_counts` meets its contract: the reads that led to each return are those of `cellCounts`.
 use borrow.Author.Needs.{needs}
-use Prim.Native.Nat.{_-_}
 use mathlib.Core.Path.{_≡_, sym, ap, _∙_}
-use mathlib.Core.Bool.{cond, not}
 use native.Mathlib.Omega.{arith}
-use lib.Dec.{eqb}
-use borrow.Author.Tests.{eq-eqb, ne-eqb}
-use Rattle.rules.specs.Bits.{widthOf}
-use Rattle.stored.specs.declared.header.Head.the-variants as H
 use Rattle.stored.specs.Fields.{handOn, cellCounts}
 use Rattle.stored.proofs.FieldReads.{field-kept}
 use Rattle.stored.proofs.header.read_cell_counts.Statement.{statement}
 use Rattle.stored.proofs.header.read_cell_counts.Tie as tie
 
--- where each read leaves the cursor
+-- ---- the read that gave each value, and the entry
+
+abbrev read-hexes : tie.After-known-told → tie.After-read-field
+read-hexes c = c .before .before .before
+
+abbrev read-quads : tie.After-known-told2 → tie.After-read-field2
+read-quads c = c .before .before .before
+
+abbrev read-segments : tie.After-known-told3 → tie.After-read-field3
+read-segments c = c .before .before .before
+
+abbrev start : tie.After-known-told → tie.Start
+start c = read-hexes c .before .before
+
+-- ---- where each read leaves the cursor
+
 at-quads : (c : tie.After-known-told) → c .before .f0 .given .0 .1 .0 .at ≡ 47
-at-quads c =
-    let start = c .before .before .before .before .before in
-    field-kept (sym (c .before .before .before .read-field .ensures) ∙ c .before .f0 .given .1) .next ∙ omega (arith, start .pre .0)
+at-quads c = field-kept (sym (read-hexes c .read-field .ensures) ∙ c .before .f0 .given .1) .next ∙ omega (arith, start c .pre .0)
 
 at-segments : (c : tie.After-known-told2) → c .before .f1 .given .0 .1 .0 .at ≡ 65
 at-segments c =
-    field-kept (sym (c .before .before .before .read-field2 .ensures) ∙ c .before .f1 .given .1) .next
-    ∙ omega (arith, at-quads (c .before .before .before .before))
+    field-kept (sym (read-quads c .read-field2 .ensures) ∙ c .before .f1 .given .1) .next ∙ omega (arith, at-quads (read-quads c .before))
 
 at-points : (c : tie.After-known-told3) → c .before .f2 .given .0 .1 .0 .at ≡ 83
 at-points c =
-    field-kept (sym (c .before .before .before .read-field3 .ensures) ∙ c .before .f2 .given .1) .next
-    ∙ omega (arith, at-segments (c .before .before .before .before))
+    field-kept (sym (read-segments c .read-field3 .ensures) ∙ c .before .f2 .given .1) .next ∙ omega (arith, at-segments (read-segments c .before))
 
 read-field-requires-2 : tie.Need-read-field-requires-2
-read-field-requires-2 c κs = omega (arith, at-quads c, c .before .before .before .before .before .pre)
+read-field-requires-2 c κs = omega (arith, at-quads c, start c .pre)
 
 read-field-requires-3 : tie.Need-read-field-requires-3
-read-field-requires-3 c κs = omega (arith, at-segments c, c .before .before .before .before .before .before .before .before .before .pre)
+read-field-requires-3 c κs = omega (arith, at-segments c, start (read-quads c .before) .pre)
 
 read-field-requires-4 : tie.Need-read-field-requires-4
-read-field-requires-4 c κs =
-    omega (arith, at-points c, c .before .before .before .before .before .before .before .before .before .before .before .before .before .pre)
+read-field-requires-4 c κs = omega (arith, at-points c, start (read-quads (read-segments c .before) .before) .pre)
+
+-- ---- the returns
 
 returns : tie.Need-returns
 unfolding cellCounts handOn
@@ -82,18 +88,9 @@ returns-4 c =
     c .hand-on4 .ensures ∙ ap handOn told
     ∙ sym (rw (sym (r0 .read-field .ensures) ∙ f0 .f0 .given .1, sym (r1 .read-field2 .ensures) ∙ f1 .f1 .given .1, sym (r2 .read-field3 .ensures) ∙ f2 .f2 .given .1, sym (r3 .read-field4 .ensures) ∙ told))
 
--- all four reads gave a value
-all-read : (c : tie.After-known-told4)
-    → let a = c .before .before .before .before .before .before .before .before .before .before .before .before .before .before .before .before .before .args in
-    let f3 = c .before in
-    let f2 = f3 .before .before .before .before in
-    let f1 = f2 .before .before .before .before in
-    let f0 = f1 .before .before .before .before in
-    cellCounts (a .s .now) (a .c .at) (a .width) (a .vertices)
-    ≡ cond (not (eqb (a .width) (widthOf (a .vertices - 1)))) (H.Refused 15)
-    (H.Read (record { vertices = a .vertices; hexes = f0 .f0 .given .0 .0; quads = f1 .f1 .given .0 .0; segments = f2 .f2 .given .0 .0; points = f3 .f3 .given .0 .0 }))
+returns-5 : tie.Need-returns-5
 unfolding cellCounts
-all-read c =
+returns-5 c =
     let f3 = c .before in
     let r3 = f3 .before .before in
     let f2 = r3 .before .before in
@@ -102,13 +99,7 @@ all-read c =
     let r1 = f1 .before .before in
     let f0 = r1 .before .before in
     let r0 = f0 .before .before in
-    rw (sym (r0 .read-field .ensures) ∙ f0 .f0 .given .1, sym (r1 .read-field2 .ensures) ∙ f1 .f1 .given .1, sym (r2 .read-field3 .ensures) ∙ f2 .f2 .given .1, sym (r3 .read-field4 .ensures) ∙ f3 .f3 .given .1)
-
-returns-5 : tie.Need-returns-5
-returns-5 c = sym (all-read (c .before .before) ∙ rw (← c .before .index-width .ensures, ne-eqb _ _ (c .if1 .taken)))
-
-returns-6 : tie.Need-returns-6
-returns-6 c = sym (all-read (c .before .before) ∙ rw (← c .before .index-width .ensures, eq-eqb _ _ (c .if1 .left)))
+    sym (rw (sym (r0 .read-field .ensures) ∙ f0 .f0 .given .1, sym (r1 .read-field2 .ensures) ∙ f1 .f1 .given .1, sym (r2 .read-field3 .ensures) ∙ f2 .f2 .given .1, sym (r3 .read-field4 .ensures) ∙ f3 .f3 .given .1))
 
 pub read-cell-counts-spec : {M : Type 1} → statement M
 read-cell-counts-spec =
@@ -134,7 +125,4 @@ read-cell-counts-spec =
     (λ c. search needs)
     (λ c κs. search needs)
     returns-4
-    (λ c. search needs)
-    (λ c κs. search needs)
-    returns-5
-    returns-6)
+    returns-5)

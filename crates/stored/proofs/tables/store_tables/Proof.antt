@@ -27,6 +27,19 @@ known c =
     let a = start .args in
     storable (a .s .now) (a .c) (c .layout-of .result) (mesh (a .xs .now) (a .hexes .now) (a .quads .now) (a .segments .now) (a .points .now)) (start .pre .0) (start .pre .1) (c .layout-of .ensures)
 
+-- the layout before each table
+abbrev at-0 : tie.After-get-coordinates → tie.After-layout-of
+at-0 c = c .before .before .before
+
+abbrev at-1 : tie.After-get-table → tie.After-layout-of
+at-1 c = at-0 (c .before .before .before .before)
+
+abbrev at-2 : tie.After-get-table2 → tie.After-layout-of
+at-2 c = at-1 (c .before .before .before .before .before)
+
+abbrev at-3 : tie.After-get-table3 → tie.After-layout-of
+at-3 c = at-2 (c .before .before .before .before .before)
+
 get-coordinates-requires : tie.Need-get-coordinates-requires
 get-coordinates-requires c κs =
     let k = known (c .before .before) in
@@ -34,22 +47,22 @@ get-coordinates-requires c κs =
 
 get-table-requires : tie.Need-get-table-requires
 get-table-requires c κs =
-    let k = known (c .before .before .before .before .before .before) in
+    let k = known (at-0 (c .before .before .before)) in
     omega (arith, k .body .numbers, k .body .small .width, k .long, k .room .hexes)
 
 get-table-requires-2 : tie.Need-get-table-requires-2
 get-table-requires-2 c κs =
-    let k = known (c .before .before .before .before .before .before .before .before .before .before .before) in
+    let k = known (at-1 (c .before .before .before .before)) in
     omega (arith, k .body .numbers, k .body .small .width, k .long, k .room .quads)
 
 get-table-requires-3 : tie.Need-get-table-requires-3
 get-table-requires-3 c κs =
-    let k = known (c .before .before .before .before .before .before .before .before .before .before .before .before .before .before .before .before) in
+    let k = known (at-2 (c .before .before .before .before)) in
     omega (arith, k .body .numbers, k .body .small .width, k .long, k .room .segments)
 
 get-table-requires-4 : tie.Need-get-table-requires-4
 get-table-requires-4 c κs =
-    let k = known (c .before .before .before .before .before .before .before .before .before .before .before .before .before .before .before .before .before .before .before .before .before) in
+    let k = known (at-3 (c .before .before .before .before)) in
     omega (arith, k .body .numbers, k .body .small .width, k .long, k .room .points)
 
 returns : tie.Need-returns

@@ -1,0 +1,2 @@
+-- Five: five tables at once, and parts of them.
+pub mod Five
