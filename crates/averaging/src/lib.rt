@@ -2,6 +2,8 @@
 // and promises that the output's used part holds the coordinates after the round, and that nothing else of it changes.
 // One pass over the coarse cells in rising dimension: points, segments, quads, hexes. Each child of a cell counts for its corners, with the sum
 // of their split positions; so the first kind that names a fine vertex gives it its rank. Then one division a fine vertex and axis.
+#![tactic(auto)]
+
 ghost use Rattle.std.specs.Prelude.{◌≡◌, length};
 ghost use Rattle.rules.specs.Lists.{overwritten};
 ghost use Rattle.rules.specs.Mesh.{mesh, topology};

@@ -5,6 +5,8 @@
 // of them: so all fields but a file's first are got from eight bytes, and fields are put behind bits that wait until there are four bytes
 // (`Pending`). Above that everything goes by the definitions of `rules` (Bits, StoredForm) and the laws of proofs/: what is put is got
 // again, fields put one behind another are their stored form, and a field is what a reader of the list of bits expects.
+#![tactic(auto)]
+
 ghost use Rattle.std.specs.Prelude.{◌≡◌, false, map, ℕ, ◌+◌, ◌*◌, ◌/◌, ◌%◌, ◌^◌, ◌≤◌, ◌<◌, length, take, drop, get_or, pos};
 ghost use Rattle.std.proofs.lemmas.List.Edits.{sets};
 ghost use Rattle.rules.specs.Lists.{overwritten};
@@ -78,7 +80,7 @@ pub fn get_field(s: &[u8], at: usize, k: u32) -> u32
 // ---- fields into bytes
 
 // Bits that are to stand from byte `at` on and are not in the buffer yet: `count` bits, at most 32, that spell `bits`.
-#[derive(Drop)]
+#[derive(Clone, Copy)]
 struct Pending {
     at: usize,
     count: u32,

@@ -11,7 +11,7 @@ use crate::classes::{Verdict, Walk};
 use crate::{classes, pairwise};
 
 // What check 7 finds: how many faces there are; or that two have one corner set and different neighbours in going round.
-#[derive(Drop)]
+#[derive(Clone, Copy)]
 pub enum Faces {
     Matching(usize),
     Mismatched,

@@ -10,7 +10,7 @@ use crate::tagged::Met;
 use crate::{faces, parts, tagged};
 
 // What is walked: the edges of three tables; their faces, told apart by how they go round; the cells of the first table.
-#[derive(Drop)]
+#[derive(Clone, Copy)]
 pub enum Walk {
     Edges,
     Faces,
@@ -18,7 +18,7 @@ pub enum Walk {
 }
 
 // What is found: how many corner sets there are; or two with one corner set that are told apart; or nothing, with too little memory.
-#[derive(Drop)]
+#[derive(Clone, Copy)]
 pub enum Verdict {
     Passes(usize),
     Fails,

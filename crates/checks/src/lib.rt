@@ -7,6 +7,8 @@
 // walk the tables about k times: checks 6 and 7 and the sizes class by class, check 8 window by window. Where fewer than 8192 are lent and do
 // not do, an array of 8192 numbers on the stack serves instead. Only where that is too little for 1024 classes, each cell or part is
 // compared with each other one. What the lent numbers hold afterwards is left free.
+#![tactic(auto)]
+
 ghost use Rattle.std.specs.Prelude.{◌≡◌, false, [], map, ◌≤◌, ◌<◌, eqb, length};
 ghost use Rattle.rules.specs.Lists.{any, repeats, cut, key_of, same};
 ghost use Rattle.rules.specs.Mesh.{mesh, topology};
@@ -42,7 +44,7 @@ pub mod tagged;
 
 // What the checks 1 to 8 find of a mesh: the number of the first that fails, 0 where none does; and, of a mesh that passes, how many faces
 // it has, since check 7 meets them all.
-#[derive(Drop)]
+#[derive(Clone, Copy)]
 pub struct Checked {
     pub refusal: u32,
     pub faces: usize,

@@ -6,7 +6,7 @@ ghost use Rattle.checks.specs.Tagged.{Tagged, TagMet};
 use numbering::{count, keys, table};
 
 // What meeting a key with a tag finds: a new key, or one that has this tag, and the count of keys; or another tag; or no room.
-#[derive(Drop)]
+#[derive(Clone, Copy)]
 pub enum Met {
     Agrees(usize),
     Differs,

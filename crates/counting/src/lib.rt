@@ -1,5 +1,7 @@
 // The sizes of a mesh after some rounds, and its counts against the ranges and against lent tables: what decides checks 10 and 11 before
 // any round. Rests on the definitions of `rules` alone.
+#![tactic(auto)]
+
 ghost use Rattle.std.specs.Prelude.{◌≡◌, ◌≤◌, ◌^◌};
 ghost use Rattle.rules.specs.Counts.{next_sizes, sizes_after, out_of_range, counts_in, fewer};
 ghost use Rattle.counting.specs.Bounded.{Bounded};

@@ -1,6 +1,8 @@
 // Refining a stored mesh on tables of the fixed sizes, 1,000 vertices and 256 cells of each kind: what the viewer's call and the listing
 // program share. The tables of the mesh that is read and all working memory are local arrays.
 // Rests on `stored` for reading and on `refine`. Promises the rules' answer and output tables, by two equations.
+#![tactic(auto)]
+
 ghost use Rattle.std.specs.Prelude.{◌≡◌};
 ghost use Rattle.rules.specs.Mesh.{mesh, topology};
 ghost use Rattle.rules.specs.Averaging.{refined};

@@ -3,6 +3,8 @@
 // Rests on `checks` for the refusals 1 to 8. Promises the whole answer for each mesh and leaves the lent numbers all zero. The answer
 // never depends on how many there are. With `max(2 V, N)` of them the call is near-linear, for V vertices and the N numbers that make
 // the checks near-linear (see `checks`); with k times fewer than 2 V the tables are walked k times.
+#![tactic(auto)]
+
 ghost use Rattle.std.specs.Prelude.{◌≡◌};
 ghost use Rattle.rules.specs.Mesh.{mesh, topology};
 ghost use Rattle.rules.specs.Refusals.{mesh_checks};

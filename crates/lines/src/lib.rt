@@ -1,6 +1,8 @@
 // What the listing program prints, as bytes in a buffer.
 // Rests on `fixed` for the mesh that is read and refined, and on `checks` for the cells that hold a vertex.
 // Promises of `lines`, for every input: the rules' bytes stand at the front of the output, and the answer is how many they are.
+#![tactic(auto)]
+
 ghost use Rattle.std.specs.Prelude.{◌≡◌, ◌≤◌, length, take};
 ghost use Rattle.rules.specs.Lists.{overwritten};
 ghost use Rattle.rules.specs.Mesh.{mesh};

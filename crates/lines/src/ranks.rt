@@ -6,7 +6,7 @@ ghost use Rattle.rules.specs.Averaging.{holding, rank, valence};
 
 use checks::cells::has_number;
 
-#[derive(Drop)]
+#[derive(Clone, Copy)]
 pub struct Ranked {
     pub rank: usize,
     pub valence: usize,

@@ -1,5 +1,7 @@
 // The listing program (section 10 of docs/SPECIFICATION.md): reads standard input, one byte with the rounds and a stored mesh, and prints the refined mesh or the
 // refusal. What is printed is what `lines::lines` promises; this file only reads and writes.
+#![tactic(auto)]
+
 use libc::{STDIN_FILENO, STDOUT_FILENO};
 
 fn main() {

@@ -68,6 +68,7 @@ module _ {A : Type 0} {P : A → Type 0} (d : (x : A) → Dec (P x)) where
 
   pub keep_if_in : (xs : List A) (x : A) → In x xs → P x → In x (keep_if xs)
   unfolding keep_if
+  keep_if_in [] x i h = elim i [ ]
   keep_if_in (y ∷ xs) x i h = go (d y) i (λ j. keep_if_in xs x j h)
     where
       go : (t : Dec (P y)) → In x (y ∷ xs) → (In x xs → In x (keep_if xs)) → In x (put_if t y (keep_if xs))
@@ -78,6 +79,7 @@ module _ {A : Type 0} {P : A → Type 0} (d : (x : A) → Dec (P x)) where
 
   pub in_keep_if : (xs : List A) (x : A) → In x (keep_if xs) → In x xs × P x
   unfolding keep_if
+  in_keep_if [] x i = elim i [ ]
   in_keep_if (y ∷ xs) x i = go (d y) i (in_keep_if xs x)
     where
       go : (t : Dec (P y)) → In x (put_if t y (keep_if xs)) → (In x (keep_if xs) → In x xs × P x) → In x (y ∷ xs) × P x

@@ -16,6 +16,7 @@ use Rattle.lists.proofs.Keys.{same_refl, same_eq, eq_same, ne_same, same_ne}
 
 pub at_index : (k : Key) (xs : List Key) → In k xs → get_or xs (index_of k xs) [] ≡ k
 unfolding index_of
+at_index k [] x' = elim x' [ ]
 at_index k (x ∷ xs) (inl e) = let s = eq_same k x e in rw s (sym e)
 at_index k (x ∷ xs) (inr h) = go (same k x) refl (at_index k xs h)
   where
@@ -25,6 +26,7 @@ at_index k (x ∷ xs) (inr h) = go (same k x) refl (at_index k xs h)
 
 pub index_below : (k : Key) (xs : List Key) → In k xs → index_of k xs < length xs
 unfolding index_of
+index_below k [] x' = elim x' [ ]
 index_below k (x ∷ xs) (inl e) = let s = eq_same k x e in rw s (suc-le-suc zero-le)
 index_below k (x ∷ xs) (inr h) = go (same k x) (index_below k xs h)
   where
@@ -74,6 +76,7 @@ index_first k (x ∷ xs) (suc e) l p h =
 
 pub index_left : (k : Key) (xs ys : List Key) → In k xs → index_of k (xs ++ ys) ≡ index_of k xs
 unfolding index_of
+index_left k [] ys x' = elim x' [ ]
 index_left k (x ∷ xs) ys (inl e) = let s = eq_same k x e in rw s
 index_left k (x ∷ xs) ys (inr i) = ap (λ (n : ℕ). cond (same k x) zero (suc n)) (index_left k xs ys i)
 
@@ -89,6 +92,7 @@ index_right k (x ∷ xs) ys h =
 
 pub meet_known : (k : Key) (xs : List Key) → In k xs → meet xs k ≡ xs
 unfolding meet
+meet_known k [] x' = elim x' [ ]
 meet_known k (x ∷ xs) (inl e) = let s = eq_same k x e in rw s
 meet_known k (x ∷ xs) (inr i) = go (same k x) (meet_known k xs i)
   where
@@ -115,6 +119,7 @@ meet_more k (x ∷ xs) = go (same k x) (meet_more k xs)
 
 in_meet : (k x : Key) (xs : List Key) → In x (meet xs k) → In x xs ⊎ (x ≡ k)
 unfolding meet
+in_meet k x [] (inr x3) = elim x3 [ ]
 in_meet k x [] (inl e) = inr e
 in_meet k x (y ∷ ys) h = go (same k y) h (in_meet k x ys)
   where
@@ -125,6 +130,7 @@ in_meet k x (y ∷ ys) h = go (same k y) h (in_meet k x ys)
 
 meet_in : (k x : Key) (xs : List Key) → In x xs ⊎ (x ≡ k) → In x (meet xs k)
 unfolding meet
+meet_in k x [] (inl x3) = elim x3 [ ]
 meet_in k x [] (inr e) = inl e
 meet_in k x (y ∷ ys) h = go (same k y) refl h (meet_in k x ys)
   where
@@ -157,6 +163,7 @@ in_meet_all known (k ∷ ks) x h =
 
 meet_all_in : (known ks : List Key) (x : Key) → In x known ⊎ In x ks → In x (meet_all known ks)
 unfolding meet_all
+meet_all_in known [] x (inr x4) = elim x4 [ ]
 meet_all_in known [] x (inl h) = h
 meet_all_in known (k ∷ ks) x (inl h) = meet_all_in (meet known k) ks x (inl (meet_in k x known (inl h)))
 meet_all_in known (k ∷ ks) x (inr (inl e)) = meet_all_in (meet known k) ks x (inl (meet_in k x known (inr e)))

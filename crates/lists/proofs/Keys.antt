@@ -55,6 +55,7 @@ once_repeats_keys ks h = once_repeats same same_eq ks h
 
 in_insert : (x z : ℕ) (ys : List ℕ) → In z (insert x ys) → (z ≡ x) ⊎ In z ys
 unfolding insert
+in_insert x z [] (inr x3) = elim x3 [ ]
 in_insert x z [] (inl e) = inl e
 in_insert x z (y ∷ ys) h = go (leb x y) h (in_insert x z ys)
   where
@@ -90,6 +91,7 @@ in_key (x ∷ xs) z h = ⊎_elim inl (λ (i : In z (key_of xs)). inr (in_key xs 
 
 pub key_in : (xs : List ℕ) (z : ℕ) → In z xs → In z (key_of xs)
 unfolding key_of
+key_in [] z x' = elim x' [ ]
 key_in (x ∷ xs) z (inl e) = insert_in x z (key_of xs) (inl e)
 key_in (x ∷ xs) z (inr h) = insert_in x z (key_of xs) (inr (key_in xs z h))
 

@@ -12,6 +12,7 @@ use Rattle.lists.specs.Membership.{In}
 
 module _ {A : Type 0} where
   pub in_left : (x : A) (s t : List A) → In x s → In x (s ++ t)
+  in_left x [] t x'' = elim x'' [ ]
   in_left x (y ∷ s) t (inl e) = inl e
   in_left x (y ∷ s) t (inr h) = inr (in_left x s t h)
 
@@ -32,10 +33,12 @@ module _ {A : Type 0} where
   get_or_in (x ∷ xs) (suc i) d h = inr (get_or_in xs i d (omega arith))
 
   pub in_get_or : (xs : List A) (x d : A) → In x xs → (i : ℕ) × (i < length xs) × (get_or xs i d ≡ x)
+  in_get_or [] x d x3 = elim x3 [ ]
   in_get_or (y ∷ xs) x d (inl e) = (zero, suc-le-suc zero-le, sym e)
   in_get_or (y ∷ xs) x d (inr h) = let r = in_get_or xs x d h in (suc r.0, suc-le-suc r.1, r.2)
 
   pub in_some : (xs : List A) (x : A) → In x xs → 0 < length xs
+  in_some [] x h = elim h [ ]
   in_some (y ∷ xs) x h = suc-le-suc zero-le
 
   -- within its length, what a list holds at a place does not depend on the default
@@ -48,6 +51,7 @@ module _ {A : Type 0} where
 
   pub keep_in : (p : A → Bool) (xs : List A) (x : A) → In x xs → p x ≡ true → In x (keep p xs)
   unfolding keep
+  keep_in p [] x x4 h = elim x4 [ ]
   keep_in p (y ∷ xs) x (inl e) h = let k : p y ≡ true = ap p (sym e) ∙ h in rw k (inl e)
   keep_in p (y ∷ xs) x (inr i) h = go (p y) (keep_in p xs x i h)
     where
@@ -57,6 +61,7 @@ module _ {A : Type 0} where
 
   pub in_keep : (p : A → Bool) (xs : List A) (x : A) → In x (keep p xs) → In x xs × (p x ≡ true)
   unfolding keep
+  in_keep p [] x h = elim h [ ]
   in_keep p (y ∷ xs) x h = go (p y) refl h (in_keep p xs x)
     where
       go :
@@ -79,11 +84,13 @@ module _ {A : Type 0} where
 
   pub concat_in : (xss : List (List A)) (xs : List A) (x : A) → In xs xss → In x xs → In x (concat xss)
   unfolding concat
+  concat_in [] xs x x4 h = elim x4 [ ]
   concat_in (ys ∷ xss) xs x (inl e) h = in_left x ys (concat xss) (subst (λ (s : List A). In x s) e h)
   concat_in (ys ∷ xss) xs x (inr k) h = in_right x ys (concat xss) (concat_in xss xs x k h)
 
   pub in_concat : (xss : List (List A)) (x : A) → In x (concat xss) → (xs : List A) × In xs xss × In x xs
   unfolding concat
+  in_concat [] x h = elim h [ ]
   in_concat (xs ∷ xss) x h =
       ⊎_elim
       (λ (k : In x xs). (xs, inl refl, k))
@@ -92,20 +99,24 @@ module _ {A : Type 0} where
 
 module _ {A B : Type 0} where
   pub map_in : (f : A → B) (xs : List A) (x : A) → In x xs → In (f x) (map f xs)
+  map_in f [] x x3 = elim x3 [ ]
   map_in f (y ∷ xs) x (inl e) = inl (ap f e)
   map_in f (y ∷ xs) x (inr h) = inr (map_in f xs x h)
 
   pub in_map : (f : A → B) (xs : List A) (y : B) → In y (map f xs) → (x : A) × In x xs × (y ≡ f x)
+  in_map f [] y x' = elim x' [ ]
   in_map f (x ∷ xs) y (inl e) = (x, inl refl, e)
   in_map f (x ∷ xs) y (inr h) = let r = in_map f xs y h in (r.0, inr r.1, r.2)
 
   pub concat_map_in : (f : A → List B) (xs : List A) (x : A) (y : B) → In x xs → In y (f x) → In y (concat_map f xs)
   unfolding concat_map
+  concat_map_in f [] x y x4 h = elim x4 [ ]
   concat_map_in f (z ∷ xs) x y (inl e) h = in_left y (f z) (concat_map f xs) (subst (λ (w : A). In y (f w)) e h)
   concat_map_in f (z ∷ xs) x y (inr k) h = in_right y (f z) (concat_map f xs) (concat_map_in f xs x y k h)
 
   pub in_concat_map : (f : A → List B) (xs : List A) (y : B) → In y (concat_map f xs) → (x : A) × In x xs × In y (f x)
   unfolding concat_map
+  in_concat_map f [] y h = elim h [ ]
   in_concat_map f (x ∷ xs) y h =
       ⊎_elim
       (λ (k : In y (f x)). (x, inl refl, k))
@@ -146,6 +157,7 @@ module _ {A B : Type 0} where
 
 pub in_up_from : (a n x : ℕ) → In x (up_from a n) → (a ≤ x) × (x < a + n)
 unfolding up_from
+in_up_from a zero x x3 = elim x3 [ ]
 in_up_from a (suc n) x (inl e) = (omega arith, omega arith)
 in_up_from a (suc n) x (inr h) = let r = in_up_from (suc a) n x h in (omega arith, omega arith)
 

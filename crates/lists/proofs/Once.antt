@@ -53,6 +53,7 @@ module _ {A : Type 0} where
     others : (y : A) → In y ys → (y ≡ x) ⊎ In y rest
 
   without : (x : A) (ys : List A) → In x ys → Without x ys
+  without x [] x'' = elim x'' [ ]
   without x (y ∷ ys) (inl e) = record { rest = ys; count = refl; others = λ z h. ⊎_elim (λ (k : z ≡ y). inl (k ∙ sym e)) inr h }
   without x (y ∷ ys) (inr h) =
       let r = without x ys h in
@@ -84,6 +85,7 @@ module _ {A B : Type 0} where
 
   -- the other way round: no repeats among the images, so equal images have equal sources
   pub once_inj : (f : A → B) (xs : List A) → Once (map f xs) → (x y : A) → In x xs → In y xs → f x ≡ f y → x ≡ y
+  once_inj f [] h x y x6 _ p = elim x6 [ ]
   once_inj f (z ∷ xs) h x y (inl e) (inl k) p = e ∙ sym k
   once_inj f (z ∷ xs) h x y (inl e) (inr k) p = absurd (h.0 (subst (λ (w : B). In w (map f xs)) (sym p ∙ ap f e) (map_in f xs y k)))
   once_inj f (z ∷ xs) h x y (inr e) (inl k) p = absurd (h.0 (subst (λ (w : B). In w (map f xs)) (p ∙ ap f k) (map_in f xs x e)))

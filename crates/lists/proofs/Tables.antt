@@ -26,6 +26,7 @@ module _ {A : Type 0} where
 
   entry_length : (k n : ℕ) (xs : List A) → n * k ≤ length xs → (c : List A) → In c (entries k n xs) → length c ≡ k
   unfolding entries
+  entry_length k zero xs h c x'' = elim x'' [ ]
   entry_length k (suc n) xs h c (inl e) = ap length e ∙ length-take-le k xs (omega arith)
   entry_length k (suc n) xs h c (inr i) = entry_length k n (drop k xs) (omega (arith, length-drop k xs)) c i
 

@@ -84,6 +84,7 @@ module _ {A : Type 0} where
 
   pub in_any : (p : A → Bool) (xs : List A) (x : A) → In x xs → p x ≡ true → any p xs ≡ true
   unfolding any
+  in_any p [] x x4 h = elim x4 [ ]
   in_any p (y ∷ xs) x (inl e) h = let k : p y ≡ true = ap p (sym e) ∙ h in rw k refl
   in_any p (y ∷ xs) x (inr k) h = ap (λ (b : Bool). p y || b) (in_any p xs x k h) ∙ or_true (p y)
 

@@ -1,6 +1,8 @@
 // Clearing a lent slice, and copying a slice to the front of another.
 // Rests on `rules` for `overwritten`. The laws of all loops are stated once, over the element type (proofs/Stores.antt).
 // Promises: what the slice holds on return, by one equation.
+#![tactic(auto)]
+
 ghost use Rattle.std.specs.Prelude.{◌≡◌, ◌≤◌, length, replicate, pos};
 ghost use Rattle.rules.specs.Lists.{overwritten};
 

@@ -1,5 +1,7 @@
 // The millimetre report: a vertex's position as three 64-bit floats. Each is the unit count over 1024, exactly, or three zeros and
 // refusal 3. Rests on the definitions of `rules` and on check 3 of one coordinate; no `requires`.
+#![tactic(auto)]
+
 ghost use Rattle.std.specs.Prelude.{◌≡◌, false, ◌||◌};
 ghost use Rattle.rules.specs.Refusals.{outside};
 ghost use Rattle.rules.specs.EntryPoints.{in_millimetres, millimetres_answer};

@@ -10,7 +10,7 @@ ghost use Rattle.numbering.specs.Parts.{places_of, part_corners, cell_corners, t
 use crate::{keys, table};
 
 // The parts of one dimension of one kind of cells. A cell by itself is one part; a segment has no face.
-#[derive(Drop)]
+#[derive(Clone, Copy)]
 pub enum Parts {
     HexEdges,
     HexFaces,
@@ -23,7 +23,7 @@ pub enum Parts {
 }
 
 // How many keys there are; or that there is no room for them all.
-#[derive(Drop)]
+#[derive(Clone, Copy)]
 pub enum Tally {
     Keys(usize),
     Full,

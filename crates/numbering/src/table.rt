@@ -6,7 +6,7 @@ ghost use Rattle.numbering.specs.Table.{run, slot_of, keys, Table, Met};
 ghost use Rattle.numbering.specs.Meeting.{Answered};
 
 // What meeting a key answers: the key's number and the count of keys; or that it is new and there is no room for it.
-#[derive(Drop)]
+#[derive(Clone, Copy)]
 pub enum Meeting {
     At(usize, usize),
     Full,

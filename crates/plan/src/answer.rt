@@ -7,7 +7,7 @@ ghost use Rattle.soundness.specs.Growth.{InRange};
 use rules::{Counts, CountsAnswer, Sizes};
 
 // The refusal's number, 0 for none, and the sizes before the rounds and after them.
-#[derive(Drop)]
+#[derive(Clone, Copy)]
 pub struct Plan {
     pub refusal: u32,
     pub start: Sizes,

@@ -1,6 +1,8 @@
 // Refining before any memory is lent for it: checks 1 to 10, and the sizes before the rounds and after them.
 // Rests on `checks` for checks 1 to 8 and the sizes, on `counting` for the sizes after the rounds, on `memory`.
 // Promises of `finished_counts`, for every input: the rules' answer, and the working numbers all zero.
+#![tactic(auto)]
+
 ghost use Rattle.std.specs.Prelude.{◌≡◌};
 ghost use Rattle.rules.specs.Mesh.{mesh};
 ghost use Rattle.rules.specs.EntryPoints.{round_checks, finished_answer, cleared};

@@ -10,7 +10,7 @@ use plan::answer::Plan;
 use rules::Sizes;
 
 // What is lent: the places of the output and of the working tables, the working 32-bit and the working 64-bit numbers.
-#[derive(Drop)]
+#[derive(Clone, Copy)]
 pub struct Lent {
     pub output: Sizes,
     pub working: Sizes,

@@ -2,6 +2,8 @@
 // Rests on `plan` for checks 1 to 10, on `rounds` for the rounds, on `counting` for check 11, on `tables` for clearing.
 // Promises of `refine`, for every input: the rules' answer, output tables and cleared memory, the third property of what it wrote, and that no
 // round leaves the range of coordinates.
+#![tactic(auto)]
+
 ghost use Rattle.std.specs.Prelude.{◌≡◌, true, suc, ◌*◌, take, replicate};
 ghost use Rattle.rules.specs.Mesh.{mesh};
 ghost use Rattle.rules.specs.Accuracy.{Property3};

@@ -1,6 +1,8 @@
 // The rounds of a mesh that passed the checks, in lent tables: the mesh is copied to the output tables and refined there, round by round.
 // Rests on `splitting` and `averaging` for a round, on `counting` for the sizes of the next, on `tables` for copies.
 // Promises of `make_rounds`: the output tables begin with the mesh after the rounds. What is left in the working memory is not said.
+#![tactic(auto)]
+
 ghost use Rattle.std.specs.Prelude.{◌≡◌};
 ghost use Rattle.rules.specs.Mesh.{mesh};
 ghost use Rattle.rules.specs.Averaging.{refined};

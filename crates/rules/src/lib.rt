@@ -1,8 +1,9 @@
 // docs/SPECIFICATION.md as definitions (specs/), the answers that the entry points give, and the constant tables.
+#![tactic(auto)]
 
 // The counts of a mesh's five tables.
 #[repr(C)]
-#[derive(Drop)]
+#[derive(Clone, Copy)]
 pub struct Counts {
     pub vertices: u32,
     pub hexes: u32,
@@ -12,7 +13,7 @@ pub struct Counts {
 }
 
 // The counts with the distinct edges and faces: what the next round's counts follow from.
-#[derive(Drop)]
+#[derive(Clone, Copy)]
 pub struct Sizes {
     pub vertices: u64,
     pub edges: u64,
@@ -25,7 +26,7 @@ pub struct Sizes {
 
 // What refining and reading answer: the refusal's number, 0 for none, and the counts.
 #[repr(C)]
-#[derive(Drop)]
+#[derive(Clone, Copy)]
 pub struct CountsAnswer {
     pub refusal: u32,
     pub counts: Counts,
@@ -33,7 +34,7 @@ pub struct CountsAnswer {
 
 // What writing and the irregular count answer: the refusal's number, 0 for none, and a count.
 #[repr(C)]
-#[derive(Drop)]
+#[derive(Clone, Copy)]
 pub struct CountAnswer {
     pub refusal: u32,
     pub count: u64,
@@ -41,7 +42,7 @@ pub struct CountAnswer {
 
 // A position in millimetres.
 #[repr(C)]
-#[derive(Drop)]
+#[derive(Clone, Copy)]
 pub struct Millimetres {
     pub x: f64,
     pub y: f64,
@@ -50,7 +51,7 @@ pub struct Millimetres {
 
 // What the millimetre report answers: the refusal's number, 0 for none, and the position.
 #[repr(C)]
-#[derive(Drop)]
+#[derive(Clone, Copy)]
 pub struct MillimetresAnswer {
     pub refusal: u32,
     pub position: Millimetres,

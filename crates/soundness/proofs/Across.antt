@@ -63,6 +63,7 @@ least_of_lem f = go (ltb (lesser a c) (lesser b d)) refl (sorted a c) (sorted b 
     at x h j (inl e) = subst (λ (j : ℕ). x ≤ corner f j) (sym e) h.0
     at x h j (inr (inl e)) = subst (λ (j : ℕ). x ≤ corner f j) (sym e) h.1
     at x h j (inr (inr (inl e))) = subst (λ (j : ℕ). x ≤ corner f j) (sym e) h.2
+    at x h j (inr (inr (inr (inr x5)))) = elim x5 [ ]
     at x h j (inr (inr (inr (inl e)))) = subst (λ (j : ℕ). x ≤ corner f j) (sym e) h.3
 
     go :

@@ -138,6 +138,7 @@ lying =
 -- only a hex has a part of dimension 3, and that is the whole
 pub solid : (κ : Kind) (r : List ℕ) → In r (places κ 3) → (κ ≡ hex) × (r ≡ whole κ)
 unfolding places by_dimension
+solid hex r (inr x'') = elim x'' [ ]
 solid hex r (inl e) = (refl, e)
 solid quad r i = absurd i
 solid segment r i = absurd i

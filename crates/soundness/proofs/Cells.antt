@@ -144,6 +144,7 @@ tops_in t d (inl e) y i = in_left y (distinct_parts t 1) (distinct_parts t 2 ++ 
 tops_in t d (inr (inl e)) y i =
     in_right y (distinct_parts t 1) (distinct_parts t 2 ++ distinct_parts t 3)
     (in_left y (distinct_parts t 2) (distinct_parts t 3) (subst (λ (d : ℕ). In y (distinct_parts t d)) e i))
+tops_in t d (inr (inr (inr x4))) y i = elim x4 [ ]
 tops_in t d (inr (inr (inl e))) y i =
     in_right y (distinct_parts t 1) (distinct_parts t 2 ++ distinct_parts t 3)
     (in_right y (distinct_parts t 2) (distinct_parts t 3) (subst (λ (d : ℕ). In y (distinct_parts t d)) e i))

@@ -158,6 +158,7 @@ module _ (t : Topology) (s : Sound t) where
       let f : 2 * n ≡ 1 = ap (λ (k : ℕ). 2 ^ k * n) (sym p) ∙ e ∙ ap (λ (d : ℕ). 2 ^ d) q in absurd (omega (arith, f))
   not_corner k (inr (inl p)) d n (inl q) e =
       let f : 4 * n ≡ 1 = ap (λ (k : ℕ). 2 ^ k * n) (sym p) ∙ e ∙ ap (λ (d : ℕ). 2 ^ d) q in absurd (omega (arith, f))
+  not_corner k (inr (inr (inr x6))) d n (inl q) e = elim x6 [ ]
   not_corner k (inr (inr (inl p))) d n (inl q) e =
       let f : 8 * n ≡ 1 = ap (λ (k : ℕ). 2 ^ k * n) (sym p) ∙ e ∙ ap (λ (d : ℕ). 2 ^ d) q in absurd (omega (arith, f))
 

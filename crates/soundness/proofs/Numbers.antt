@@ -103,6 +103,7 @@ module _ (t : Topology) (k : Key) (d : ℕ) (di : In d upper) (i : In k (distinc
       no_corner : In d upper → d ≡ 0 → ⊥
       no_corner (inl e) z = omega arith
       no_corner (inr (inl e)) z = omega arith
+      no_corner (inr (inr (inr x4))) z = elim x4 [ ]
       no_corner (inr (inr (inl e))) z = omega arith
 
   at : index_of k (parts t) ≡ t.vertex_count + index_of k (tops t)
@@ -126,6 +127,7 @@ module _ (t : Topology) (k : Key) (d : ℕ) (di : In d upper) (i : In k (distinc
         index_left k (faces t) (distinct_parts t 3)
             (subst (λ (e : ℕ). In k (distinct_parts t e)) (q ∙ r) i),
       ))
+  number_at e (inr (inr (inr x4))) q = elim x4 [ ]
   number_at e (inr (inr (inl r))) q =
       subst (λ (e : ℕ). index_of k (parts t) ≡ start t e + index_of k (distinct_parts t e)) (sym r)
       (omega (

@@ -49,4 +49,9 @@ unfolding whole up_from
 isolated_vertex_lem s = let h = s.held 1 (omega arith) in omega (arith, h.is, only h.kind h.cell h.place h.listed h.placed)
   where
     only : (κ : Kind) (cell : List ℕ) (place : ℕ) → In cell (cells_of (cells 2 [] [] [] ((0 ∷ []) ∷ [])) κ) → In place (whole κ) → corner cell place ≡ 0
+    only point cell place (inr x8) _ = elim x8 [ ]
+    only point cell place (inl e) (inr x8) = elim x8 [ ]
+    only segment cell place x4 _ = elim x4 [ ]
+    only quad cell place x3 _ = elim x3 [ ]
+    only hex cell place x'' _ = elim x'' [ ]
     only point cell place (inl e) (inl k) = ap (λ (c : List ℕ). corner c place) e ∙ ap (corner (0 ∷ [])) k

@@ -6,3 +6,4 @@
 // so that the finished counts are those foretold and a finished mesh passes checks 1, 2 and 4 to 8 again.
 // The idea: a part of the fine mesh is all that lies between two parts P and R of one cell, P in R, as many dimensions apart as the fine part
 // has. So edges, faces and hexes are the cases 1, 2, 3 of one law, and counting the P below an R gives the coefficients 2 4 6, 4 12, 8.
+#![tactic(auto)]

@@ -14,7 +14,7 @@ use crate::kinds;
 use numbering::parts;
 
 // V, E and F of the mesh: behind the old vertices come those of the edges, then those of the faces.
-#[derive(Drop)]
+#[derive(Clone, Copy)]
 pub struct Base {
     pub vertices: usize,
     pub edges: usize,
@@ -22,7 +22,7 @@ pub struct Base {
 }
 
 // How many edges and faces have been met.
-#[derive(Drop)]
+#[derive(Clone, Copy)]
 pub struct Known {
     pub edges: usize,
     pub faces: usize,

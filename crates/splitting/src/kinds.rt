@@ -6,7 +6,7 @@ ghost use Rattle.splitting.specs.Kinds.{kind_of, corner_count, edges_of, faces_o
 use numbering::parts;
 use rules::tables;
 
-#[derive(Drop)]
+#[derive(Clone, Copy)]
 pub enum CellKind {
     Hex,
     Quad,

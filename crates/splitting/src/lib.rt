@@ -1,6 +1,8 @@
 // One round's fine cells (section 2 of docs/SPECIFICATION.md).
 // Rests on `rules` (what a split is), `soundness` (the numbers of the fine vertices), `numbering` (edges and faces in the order first met).
 // Promises: each table of children is that of the rules, at the front of the lent table; the rest of it is unchanged.
+#![tactic(auto)]
+
 ghost use Rattle.std.specs.Prelude.{◌≡◌, ◌+◌, ◌≤◌, ◌<◌, ◌^◌, length};
 ghost use Rattle.rules.specs.Lists.{concat, overwritten};
 ghost use Rattle.rules.specs.Mesh.{mesh, topology};

@@ -3,13 +3,13 @@ ghost use Rattle.std.specs.Prelude.{◌≡◌, ◌+◌, ◌*◌, ◌^◌, ◌≤
 ghost use Rattle.stored.specs.Fields.{field_under, fields_under};
 
 // A bit of a file: bit 0 is the top bit of byte 0.
-#[derive(Drop)]
+#[derive(Clone, Copy)]
 pub struct Cursor {
     pub at: usize,
 }
 
 // What a field may hold: its width in bits, the lowest and the highest value, and the number of the refusal for any other value.
-#[derive(Drop)]
+#[derive(Clone, Copy)]
 pub struct Rule {
     pub width: u32,
     pub low: u32,
@@ -18,7 +18,7 @@ pub struct Rule {
 }
 
 // What a field read answers.
-#[derive(Drop)]
+#[derive(Clone, Copy)]
 pub enum Field {
     Value(u32, Cursor),
     Refused(u32),

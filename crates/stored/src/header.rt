@@ -9,7 +9,7 @@ use crate::fields::{Cursor, Field, Rule, read_field};
 use rules::Counts;
 
 // The counts that a header gives, or a refusal.
-#[derive(Drop)]
+#[derive(Clone, Copy)]
 pub enum Head {
     Read(Counts),
     Refused(u32),

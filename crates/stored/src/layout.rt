@@ -7,7 +7,7 @@ use rules::Counts;
 
 // The index width, the bits at which the corners of each kind begin, how many corners there are, the bit behind the last, and the bytes that
 // hold all.
-#[derive(Drop)]
+#[derive(Clone, Copy)]
 pub struct Layout {
     pub width: u32,
     pub hexes: usize,

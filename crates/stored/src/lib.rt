@@ -7,6 +7,8 @@
 //
 // Both promise the answer and all lent memory by the rules' equations, and that the one undoes the other: what stands in lent memory on
 // return is accepted by the other, and gives back what was there at entry.
+#![tactic(auto)]
+
 ghost use Rattle.std.specs.Prelude.{◌≡◌, length, take};
 ghost use Rattle.rules.specs.Mesh.{mesh};
 ghost use Rattle.rules.specs.Counts.{counts_of};

@@ -1,5 +1,7 @@
 // Five tables at once: how many places they have, a mesh copied to the front of them, and clearing.
 // Rests on `memory`, slice by slice. Promises: the tables on return, by one equation of meshes.
+#![tactic(auto)]
+
 ghost use Rattle.std.specs.Prelude.{◌≡◌, ◌≤◌, length};
 ghost use Rattle.rules.specs.Mesh.{mesh};
 ghost use Rattle.rules.specs.Counts.{counts_of, counts_in};

@@ -10,32 +10,32 @@ use Rattle.counting.proofs.Sizes.{bound, bound_next, bound_fits, after_all, afte
 use Rattle.counting.proofs.sizes_after.Statement.{statement}
 use Rattle.counting.proofs.sizes_after.Tie as tie
 
-abbrev invariant-loop : tie.invariant-loop
+abbrev invariant-loop : tie.invariant-loop-k
 invariant-loop rounds now₀ k₀ now k =
     (k ≤ rounds) × (sizes_after (rounds - k) now ≡ sizes_after rounds now₀) × Bounded (bound k) now
 
-abbrev decreases-loop : tie.decreases-loop
+abbrev decreases-loop : tie.decreases-loop-k
 decreases-loop rounds now₀ k₀ now k = rounds - k
 
-loop-holds : tie.Need-loop-init invariant-loop decreases-loop
+loop-holds : tie.Need-loop-k-init invariant-loop decreases-loop
 loop-holds c = (omega arith, after_all c.args.rounds c.args.s, c.requires.0)
 
-next-sizes-requires : tie.Need-next-sizes-requires invariant-loop decreases-loop
+next-sizes-requires : tie.Need-next_sizes-now-requires invariant-loop decreases-loop
 next-sizes-requires c κs =
-    let l = c.before.loop in
+    let l = c.before.loop-k in
     bound_fits l.k l.now (omega arith) l.invariant.2
 
-add-k : tie.Need-overflow-add-k invariant-loop decreases-loop
+add-k : tie.Need-overflow_add-k invariant-loop decreases-loop
 add-k c = omega arith
 
-loop-less : tie.Need-loop-smaller invariant-loop decreases-loop
+loop-less : tie.Need-loop-k-smaller invariant-loop decreases-loop
 loop-less c = omega arith
 
-loop-again : tie.Need-loop-preserved invariant-loop decreases-loop
+loop-again : tie.Need-loop-k-preserved invariant-loop decreases-loop
 loop-again c =
-    let l = c.before.before.loop in
+    let l = c.before.before.loop-k in
     let n = c.before.before.before.args.rounds in
-    let e = c.next-sizes.ensures in (
+    let e = c.next_sizes-now.ensures in (
       omega arith,
       rw e (after_next n l.k l.now (omega arith) ∙ l.invariant.1),
       subst (λ (s : Sizes). Bounded (bound (l.k + 1)) s) (sym e) (bound_next l.k l.now l.invariant.2),
@@ -43,7 +43,7 @@ loop-again c =
 
 returns : tie.Need-returns invariant-loop decreases-loop
 returns c =
-    let l = c.before.loop in
+    let l = c.before.loop-k in
     sym (after_none c.before.before.args.rounds l.k l.now (omega arith)) ∙ l.invariant.1
 
 pub sizes_after_spec : {M : Type 1} → statement M

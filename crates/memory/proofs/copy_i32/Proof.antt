@@ -4,6 +4,7 @@ use Prim.Native.Nat.{◌-◌}
 use native.Mathlib.Omega.{arith}
 use lib.ListN.{length}
 use lib.IntN.{pos}
+use mir.Syntax.{w32}
 use mir.Facts.{to_z-of_z}
 use Rattle.memory.proofs.Stores.{Storing, store_start, front_turn, store_end, sets_front}
 use Rattle.memory.proofs.copy_i32.Statement.{statement}
@@ -22,6 +23,6 @@ copy_i32_spec =
     (λ c. omega arith)
     (λ c. omega arith)
     (λ c. omega arith)
-    (λ c. front_turn (pos 0) (to_z-of_z (record { sfits = c.dst.given })) c.before.before.loop.invariant c.before.loop-test.true)
-    (λ c. c.before.loop.invariant.long)
-    (λ c. store_end c.before.loop.invariant c.loop-test.false ∙ sets_front _ _ c.before.before.requires))
+    (λ c. front_turn (pos 0) (to_z-of_z {w = w32} (record { sfits = c.dst-1.given })) c.before.before.loop-i.invariant c.before.loop-i-test.true)
+    (λ c. c.before.loop-i.invariant.long)
+    (λ c. store_end c.before.loop-i.invariant c.loop-i-test.false ∙ sets_front _ _ c.before.before.requires))

@@ -15,8 +15,8 @@ returns c =
     let q = s.before.before.before.before in
     let h = q.before.before.before.before in
     let x = h.before.before.before in (
-      same_mesh x.clear-i32.ensures h.clear-u32.ensures q.clear-u322.ensures s.clear-u323.ensures p.clear-u324.ensures,
-      (w.clear-u325.ensures, l.clear-u64.ensures),
+      same_mesh x.clear_i32.ensures h.clear_u32.ensures q.clear_u32-2.ensures s.clear_u32-3.ensures p.clear_u32-4.ensures,
+      (w.clear_u32-5.ensures, l.clear_u64.ensures),
     )
 
 pub clear_spec : {M : Type 1} → statement M

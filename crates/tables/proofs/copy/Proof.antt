@@ -13,7 +13,7 @@ returns c =
     let q = s.before.before.before.before in
     let h = q.before.before.before.before in
     let x = h.before.before.before in
-    same_mesh x.copy-i32.ensures h.copy-u32.ensures q.copy-u322.ensures s.copy-u323.ensures p.copy-u324.ensures
+    same_mesh x.copy_i32.ensures h.copy_u32.ensures q.copy_u32-2.ensures s.copy_u32-3.ensures p.copy_u32-4.ensures
 
 pub copy_spec : {M : Type 1} → statement M
 copy_spec =
