@@ -35,6 +35,7 @@ shared : (d : ℕ) → In d dimensions → Shared (2 ^ d)
 shared d (inl e) = rw e (record { whole = refl; some = omega arith })
 shared d (inr (inl e)) = rw e (record { whole = refl; some = omega arith })
 shared d (inr (inr (inl e))) = rw e (record { whole = refl; some = omega arith })
+shared d (inr (inr (inr (inr x4)))) = elim x4 [ ]
 shared d (inr (inr (inr (inl e)))) = rw e (record { whole = refl; some = omega arith })
 
 weights_equal : (w : ℕ) (us : List ℕ) → weights (map (λ (u : ℕ). record { vertex = u; weight = w }) us) ≡ length us * w

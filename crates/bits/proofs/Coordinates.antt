@@ -81,7 +81,7 @@ take_off v l h =
 
 -- a coordinate in an i32 is read back as it is
 pub kept : (z : ℤ) → mag z < 2 ^ 29 → to_z w32 (of_z w32 z) ≡ z
-kept z h = to_z-of_z (record { sfits = omega arith })
+kept z h = to_z-of_z {w = w32} (record { sfits = omega arith })
 
 -- ---- a table's entries
 

@@ -5,7 +5,7 @@ use Rattle.bits.proofs.Shifts.{one_shl_pos, mask_law}
 use Rattle.bits.proofs.cut.Statement.{statement}
 use Rattle.bits.proofs.cut.Tie as tie
 
-sub-result : tie.Need-overflow-sub-result
+sub-result : tie.Need-overflow_sub-result
 sub-result c = one_shl_pos 64 c.args.k c.requires.1
 
 returns : tie.Need-returns

@@ -18,51 +18,47 @@ use Rattle.bits.proofs.Coordinates.{of_field_near, kept, get_or_of_field}
 use Rattle.bits.proofs.get_coordinates.Statement.{statement}
 use Rattle.bits.proofs.get_coordinates.Tie as tie
 
-abbrev invariant-loop : tie.invariant-loop
+abbrev invariant-loop : tie.invariant-loop-i
 invariant-loop s at t₀ n p₀ i₀ t p i =
     (i ≤ n) × (p ≡ at + 30 * i) × Storing 0 (map of_field (table_at s at 30 n)) t₀ t i
 
-abbrev decreases-loop : tie.decreases-loop
+abbrev decreases-loop : tie.decreases-loop-i
 decreases-loop s at t₀ n p₀ i₀ t p i = n - i
 
-loop-holds : tie.Need-loop-init invariant-loop decreases-loop
+loop-holds : tie.Need-loop-i-init invariant-loop decreases-loop
 loop-holds c =
-    let a = c.before.args in
+    let a = c.args in
     (omega arith, omega arith, store_start 0 (map of_field (table_at a.s.now a.at 30 a.n)) a.t.now)
 
-of-field-requires : tie.Need-of-field-requires invariant-loop decreases-loop
+of-field-requires : tie.Need-of_field-requires invariant-loop decreases-loop
 of-field-requires c κs =
-    let at-loop = c.before.before in
-    let a = at-loop.before.before.args in
-    subst (λ (x : ℕ). x < 2 ^ 30) (sym c.get-field.ensures) (field_lt a.s.now at-loop.loop.p 30)
+    let a = c.args in
+    subst (λ (x : ℕ). x < 2 ^ 30) (sym c.get_field.ensures) (field_lt a.s.now c.loop-i.p 30)
 
-loop-again : tie.Need-loop-preserved invariant-loop decreases-loop
+loop-again : tie.Need-loop-i-preserved invariant-loop decreases-loop
 loop-again c =
-    let at-get = c.before in
-    let at-loop = at-get.before.before in
-    let a = at-loop.before.before.args in
-    let i : ℕ = at-loop.loop.i in
+    let a = c.args in
+    let i : ℕ = c.loop-i.i in
     let T : List ℕ = table_at a.s.now a.at 30 a.n in
     let Z : List ℤ = map of_field T in
-    let near = subst (λ (x : ℤ). mag x < 2 ^ 29) (sym c.of_field.ensures) (of_field_near at-get.get-field.result (of-field-requires at-get _)) in
+    let near = subst (λ (x : ℤ). mag x < 2 ^ 29) (sym c.of_field.ensures) (of_field_near c.get_field.result (of-field-requires c.before _)) in
     let entry : to_z w32 (of_z w32 c.of_field.result) ≡ get_or Z i (pos 0) =
     kept c.of_field.result near ∙ c.of_field.ensures
     ∙ ap of_field
-    (at-get.get-field.ensures ∙ ap (λ (p : ℕ). field_at a.s.now p 30) at-loop.loop.invariant.1 ∙ sym (get_or_table_at a.s.now a.at 30 a.n i (omega arith)))
+    (c.get_field.ensures ∙ ap (λ (p : ℕ). field_at a.s.now p 30) c.loop-i.invariant.1 ∙ sym (get_or_table_at a.s.now a.at 30 a.n i (omega arith)))
     ∙ sym (get_or_of_field T i) in
     let long : length Z ≡ a.n = length-map T of_field ∙ length_table_at a.s.now a.at 30 a.n in (
       omega arith,
       omega arith,
-      front_turn (pos 0) entry at-loop.loop.invariant.2 (omega arith),
+      front_turn (pos 0) entry c.loop-i.invariant.2 (omega arith),
     )
 
 returns : tie.Need-returns invariant-loop decreases-loop
 returns c =
-    let at-loop = c.before in
-    let a = at-loop.before.before.args in
+    let a = c.args in
     let T : List ℕ = table_at a.s.now a.at 30 a.n in
     let long : length (map of_field T) ≡ a.n = length-map T of_field ∙ length_table_at a.s.now a.at 30 a.n in
-    store_end at-loop.loop.invariant.2 (omega arith) ∙ sets_front a.t.now (map of_field T) (omega arith)
+    store_end c.loop-i.invariant.2 (omega arith) ∙ sets_front a.t.now (map of_field T) (omega arith)
 
 pub get_coordinates_spec : {M : Type 1} → statement M
 get_coordinates_spec =

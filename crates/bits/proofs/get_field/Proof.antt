@@ -17,36 +17,32 @@ use Rattle.bits.proofs.get_field.Tie as tie
 field_fits : (s : List ℕ) (p k v : ℕ) → k ≤ 32 → v ≡ field_at s p k → v < 2 ^ 32
 field_fits s p k v h e = subst (λ (n : ℕ). n < 2 ^ 32) (sym e) (lt_of_lt_of_le (field_lt s p k) (pow_mono h))
 
-returns : tie.Need-returns
+returns : tie.Need-returns-then-n-lt8
 returns c =
-    let at-get = c.before in
-    let at-known = at-get.before.before in
-    let a = at-known.before.args in
+    let a = c.args in
     let n : ℕ = (a.at + a.k + 7) / 8 in
-    let bytes : Bytes a.s.now = λ j. (at-known.shared-slice-known.given j).fits in
+    let bytes : Bytes a.s.now = λ j. (c.shared_slice_known-1.given j).fits in
     c.cut.ensures
-    ∙ ap (λ (x : ℕ). x / 2 ^ (8 * n - (a.at + a.k)) % 2 ^ a.k) at-get.get-bytes.ensures
+    ∙ ap (λ (x : ℕ). x / 2 ^ (8 * n - (a.at + a.k)) % 2 ^ a.k) c.get_bytes.ensures
     ∙ field_window a.s.now a.at a.k 0 n n bytes (omega arith) (omega arith) (omega arith) (omega arith)
 
-cast-result : tie.Need-overflow-cast-result
+cast-result : tie.Need-overflow_cast-result
 cast-result c =
-    let a = c.before.before.before.before.args in
+    let a = c.args in
     record { fits = field_fits a.s.now a.at a.k _ (omega arith) (returns c) }
 
-returns-2 : tie.Need-returns-2
+returns-2 : tie.Need-returns
 returns-2 c =
-    let at-get = c.before in
-    let at-known = at-get.before.before in
-    let a = at-known.before.args in
+    let a = c.args in
     let n : ℕ = (a.at + a.k + 7) / 8 in
-    let bytes : Bytes a.s.now = λ j. (at-known.shared-slice-known.given j).fits in
-    c.cut2.ensures
-    ∙ ap (λ (x : ℕ). x / 2 ^ (8 * n - (a.at + a.k)) % 2 ^ a.k) at-get.get-bytes2.ensures
+    let bytes : Bytes a.s.now = λ j. (c.shared_slice_known-1.given j).fits in
+    c.cut-2.ensures
+    ∙ ap (λ (x : ℕ). x / 2 ^ (8 * n - (a.at + a.k)) % 2 ^ a.k) c.get_bytes-2.ensures
     ∙ field_window a.s.now a.at a.k (n - 8) 8 n bytes (omega arith) (omega arith) (omega arith) (omega arith)
 
-cast-result-2 : tie.Need-overflow-cast-result-2
+cast-result-2 : tie.Need-overflow_cast-result-2
 cast-result-2 c =
-    let a = c.before.before.before.before.args in
+    let a = c.args in
     record { fits = field_fits a.s.now a.at a.k _ (omega arith) (returns-2 c) }
 
 pub get_field_spec : {M : Type 1} → statement M

@@ -7,14 +7,14 @@ use Rattle.bits.proofs.IndexWidth.{width_zero, width_leading}
 use Rattle.bits.proofs.index_width.Statement.{statement}
 use Rattle.bits.proofs.index_width.Tie as tie
 
-sub-result : tie.Need-overflow-sub-result
-sub-result c = omega (arith, leading_le 32 c.before.args.n)
+sub-result : tie.Need-overflow_sub-result
+sub-result c = omega (arith, leading_le 32 c.args.n)
 
-returns : tie.Need-returns
-returns c = sym (ap width_of c.if1.true ∙ width_zero)
+returns : tie.Need-returns-then-n-eq0
+returns c = sym (ap width_of c.if-n-eq0.true ∙ width_zero)
 
-returns-2 : tie.Need-returns-2
-returns-2 c = width_leading 32 c.before.args.n c.before.ranges.n.fits c.if1.false
+returns-2 : tie.Need-returns-else-n-eq0
+returns-2 c = width_leading 32 c.args.n c.ranges.n.fits c.if-n-eq0.false
 
 pub index_width_spec : {M : Type 1} → statement M
 index_width_spec = tie.close (tie.spec sub-result returns returns-2)

@@ -12,19 +12,19 @@ use Rattle.bits.proofs.Coordinates.{of_field_near, low_half, take_off}
 use Rattle.bits.proofs.of_field.Statement.{statement}
 use Rattle.bits.proofs.of_field.Tie as tie
 
-difference : (c : tie.Else1) → to_z w32 c.before.args.v -ℤ pos (2 ^ 30) ≡ of_field c.before.args.v
+difference : (c : tie.Else-v-lt536870912) → to_z w32 c.args.v -ℤ pos (2 ^ 30) ≡ of_field c.args.v
 difference c =
-    let v = c.before.args.v in
-    ap (λ (x : ℤ). x -ℤ pos (2 ^ 30)) (to_z_pos w32 {n = v} (omega arith)) ∙ take_off v (omega arith) c.before.requires
+    let v = c.args.v in
+    ap (λ (x : ℤ). x -ℤ pos (2 ^ 30)) (to_z_pos w32 {n = v} (omega arith)) ∙ take_off v (omega arith) c.requires
 
-sub-result : tie.Need-overflow-sub-result
+sub-result : tie.Need-overflow_sub-result
 sub-result c =
-    subst (λ (x : ℤ). SFits w32 x) (sym (difference c)) (record { sfits = omega (arith, of_field_near c.before.args.v c.before.requires) })
+    subst (λ (x : ℤ). SFits w32 x) (sym (difference c)) (record { sfits = omega (arith, of_field_near c.args.v c.requires) })
 
-returns : tie.Need-returns
-returns c = to_z_pos w32 (omega arith) ∙ sym (low_half c.before.args.v (omega arith))
+returns : tie.Need-returns-then-v-lt536870912
+returns c = to_z_pos w32 (omega arith) ∙ sym (low_half c.args.v (omega arith))
 
-returns-2 : tie.Need-returns-2
+returns-2 : tie.Need-returns-else-v-lt536870912
 returns-2 c = to_z-of_z (sub-result c) ∙ difference c
 
 pub of_field_spec : {M : Type 1} → statement M

@@ -10,20 +10,19 @@ use Rattle.bits.proofs.Waiting.{pend_same}
 use Rattle.bits.proofs.pend.Statement.{statement}
 use Rattle.bits.proofs.pend.Tie as tie
 
-cast-cut : tie.Need-overflow-cast-cut
-cast-cut c = omega (arith, c.shared-slice-known2.given (c.before.before.args.at / 8))
+cast-cut : tie.Need-overflow_cast-d
+cast-cut c = omega (arith, c.shared_slice_known-2-1.given (c.args.at / 8))
 
 returns : tie.Need-returns
 returns c =
-    let start = c.before.before.before in
-    let a = start.args in
+    let a = c.args in
     let u : ℕ = a.at % 8 in
-    let bytes = c.before.shared-slice-known2.given in (
+    let bytes = c.shared_slice_known-2-1.given in (
       (omega arith, subst (λ (n : ℕ). n < 2 ^ u) (sym c.cut.ensures) (mod-lt _ (pow_pos u))),
       omega arith,
       λ k v.
           ap (λ (h : ℕ). put_at (put_at a.d.now (8 * (a.at / 8)) u h) a.at k v) c.cut.ensures
-          ∙ pend_same a.d.now a.at k v (λ j. (bytes j).fits) start.requires,
+          ∙ pend_same a.d.now a.at k v (λ j. (bytes j).fits) c.requires,
     )
 
 pub pend_spec : {M : Type 1} → statement M

@@ -9,15 +9,12 @@ use Rattle.bits.proofs.put_field.Tie as tie
 
 returns : tie.Need-returns
 returns c =
-    let at-settle = c.before.before in
-    let at_next = at-settle.before.before.before.before in
-    let at-pend = at_next.before.before in
-    let a = at-pend.before.before.before.args in (
-      omega (arith, at-settle.settle.ensures.0, at_next.put_next.ensures.1, at-pend.pend.ensures.1),
-      at-settle.settle.ensures.1
-          ∙ at_next.put_next.ensures.2
-          ∙ ap (λ (e : ℕ). put_at (settled a.d.now at-pend.pend.result) e a.k a.v) at-pend.pend.ensures.1
-          ∙ at-pend.pend.ensures.2 a.k a.v,
+    let a = c.args in (
+      omega (arith, c.settle.ensures.0, c.put_next-q.ensures.1, c.pend-p.ensures.1),
+      c.settle.ensures.1
+          ∙ c.put_next-q.ensures.2
+          ∙ ap (λ (e : ℕ). put_at (settled a.d.now c.pend-p.result) e a.k a.v) c.pend-p.ensures.1
+          ∙ c.pend-p.ensures.2 a.k a.v,
     )
 
 pub put_field_spec : {M : Type 1} → statement M

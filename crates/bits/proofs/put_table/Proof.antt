@@ -11,65 +11,58 @@ use Rattle.bits.proofs.Tables.{next_room}
 use Rattle.bits.proofs.put_table.Statement.{statement}
 use Rattle.bits.proofs.put_table.Tie as tie
 
-abbrev invariant-loop : tie.invariant-loop
+abbrev invariant-loop : tie.invariant-loop-i
 invariant-loop d₀ at w t p₀ i₀ d p i = (i ≤ length t) × Putting d₀ at w t d p i
 
-abbrev decreases-loop : tie.decreases-loop
+abbrev decreases-loop : tie.decreases-loop-i
 decreases-loop d₀ at w t p₀ i₀ d p i = length t - i
 
-returns : tie.Need-returns invariant-loop decreases-loop
+returns : tie.Need-returns-then-t-eq0 invariant-loop decreases-loop
 returns c =
-    let a = c.before.before.before.args in
+    let a = c.args in
     put_empty a.d.now a.t.now a.at a.w (omega arith)
 
-pend-requires : tie.Need-pend-requires invariant-loop decreases-loop
+pend-requires : tie.Need-pend-p-requires invariant-loop decreases-loop
 pend-requires c κs =
-    let a = c.before.before.before.before.args in
+    let a = c.args in
     omega (arith, mul-zero a.w, next_room a.at a.w 0 (length a.t.now) (8 * length a.d.now) (omega arith) (omega arith))
 
-loop-holds : tie.Need-loop-init invariant-loop decreases-loop
+loop-holds : tie.Need-loop-i-init invariant-loop decreases-loop
 loop-holds c =
-    let a = c.before.before.before.before.before.args in
-    let e = c.pend.ensures in
-    (omega arith, put_start a.d.now a.at a.w a.t.now c.pend.result e.0 e.1 e.2)
+    let a = c.args in
+    let e = c.pend-p.ensures in
+    (omega arith, put_start a.d.now a.at a.w a.t.now c.pend-p.result e.0 e.1 e.2)
 
-put-next-requires : tie.Need-put-next-requires invariant-loop decreases-loop
+put-next-requires : tie.Need-put_next-p-requires invariant-loop decreases-loop
 put-next-requires c κs =
-    let at-loop = c.before.before.before in
-    let start = at-loop.before.before.before.before.before.before in
-    let a = start.args in
-    let i : ℕ = at-loop.loop.i in
-    let h = at-loop.loop.invariant.1 in (
+    let a = c.args in
+    let i : ℕ = c.loop-i.i in
+    let h = c.loop-i.invariant.1 in (
       h.waits,
       omega arith,
-      start.requires.1 i,
+      c.requires.1 i,
       omega (arith, h.end, h.long, next_room a.at a.w i (length a.t.now) (8 * length a.d.now) (omega arith) (omega arith)),
     )
 
-loop-again : tie.Need-loop-preserved invariant-loop decreases-loop
+loop-again : tie.Need-loop-i-preserved invariant-loop decreases-loop
 loop-again c =
-    let at-put = c.before.before in
-    let at-loop = at-put.before.before.before.before in
-    let e = at-put.put_next.ensures in
-    (omega arith, put_turn _ at-loop.loop.invariant.1 (omega arith) refl e.0 e.1 e.2 at-put.put_next.auto.0)
+    let e = c.put_next-p.ensures in
+    (omega arith, put_turn _ c.loop-i.invariant.1 (omega arith) refl e.0 e.1 e.2 c.put_next-p.auto.d)
 
 settle-requires : tie.Need-settle-requires invariant-loop decreases-loop
 settle-requires c κs =
-    let at-loop = c.before.before in
-    let h = at-loop.loop.invariant.1 in
+    let h = c.loop-i.invariant.1 in
     let e = put_end h (omega arith) (omega arith) in
     (h.waits, omega (arith, e.0, h.long), omega (arith, e.0))
 
-same_length : tie.Need-same-length invariant-loop decreases-loop
+same_length : tie.Need-shape_of-d invariant-loop decreases-loop
 same_length c =
-    let at-settle = c.before.before in
-    at-settle.settle.auto.0 ∙ at-settle.before.before.before.loop.invariant.1.long
+    c.settle.auto.d ∙ c.loop-i.invariant.1.long
 
-returns-2 : tie.Need-returns-2 invariant-loop decreases-loop
+returns-2 : tie.Need-returns invariant-loop decreases-loop
 returns-2 c =
-    let at-settle = c.before.before in
-    let e = put_end at-settle.before.before.before.loop.invariant.1 (omega arith) (omega arith) in
-    (at-settle.settle.ensures.0 ∙ e.0, at-settle.settle.ensures.1 ∙ e.1)
+    let e = put_end c.loop-i.invariant.1 (omega arith) (omega arith) in
+    (c.settle.ensures.0 ∙ e.0, c.settle.ensures.1 ∙ e.1)
 
 pub put_table_spec : {M : Type 1} → statement M
 put_table_spec =

@@ -13,25 +13,20 @@ use Rattle.bits.proofs.settle.Tie as tie
 
 append-requires : tie.Need-append-requires
 append-requires c κs =
-    let start = c.before.before.before.before in
-    let count = start.args.p.count in
+    let count = c.args.p.count in
     let f : ℕ = 8 * ((count + 7) / 8) - count in
     let room : count + f ≤ 64 = omega arith in
-    (omega arith, lt_of_lt_of_le (shl_lt count f start.requires.0.1) (pow_mono room), pow_pos f)
+    (omega arith, lt_of_lt_of_le (shl_lt count f c.requires.0.1) (pow_mono room), pow_pos f)
 
 returns : tie.Need-returns
 returns c =
-    let at-put = c.before.before.before.before in
-    let at-append = at-put.before in
-    let at-known = at-append.before.before.before.before in
-    let start = at-known.before in
-    let d = start.args.d.now in
-    let p = start.args.p in
+    let d = c.args.d.now in
+    let p = c.args.p in
     let n : ℕ = (p.count + 7) / 8 in (
       refl,
-      at-put.put_bytes.ensures
-          ∙ ap (λ (x : ℕ). sets d p.at (bytes_of n x)) (at-append.append.ensures ∙ add-zero (p.bits * 2 ^ (8 * n - p.count)))
-          ∙ put_bytes d p.at p.count p.bits (λ j. (at-known.slice-known.given j).fits) start.requires.0.1 start.requires.1,
+      c.put_bytes.ensures
+          ∙ ap (λ (x : ℕ). sets d p.at (bytes_of n x)) (c.append.ensures ∙ add-zero (p.bits * 2 ^ (8 * n - p.count)))
+          ∙ put_bytes d p.at p.count p.bits (λ j. (c.slice_known-1.given j).fits) c.requires.0.1 c.requires.1,
     )
 
 pub settle_spec : {M : Type 1} → statement M

@@ -4,11 +4,9 @@ use borrow.Author.Rules.{rules}
 use Rattle.checks.proofs.check_cells.Statement.{statement}
 use Rattle.checks.proofs.check_cells.Tie as tie
 
-check-cells-with-requires-2 : tie.Need-check-cells-with-requires-2
+check-cells-with-requires-2 : tie.Need-check_cells_with-requires-2
 check-cells-with-requires-2 c κs =
-    let e = c.before in
-    let l = e.before in
-    (omega (arith, l.is-little.ensures e.if1.false), l.before.before.before.before.before.before.requires)
+    (omega (arith, c.is_little.ensures c.if-is_little.false), c.requires)
 
 pub check_cells_spec : {M : Type 1} → statement M
 check_cells_spec =

@@ -22,122 +22,108 @@ passed s = tables_pass (mesh_of s) s.requires.1
 
 -- ---- 5 passes
 
-abbrev start-5 : tie.Else1 → tie.Start
+abbrev start-5 : tie.Else-has_repeated_corner → tie.Start
 start-5 c = c.before.before.before.before.before.before.before
 
-passes-5 : (c : tie.Else1) → repeated_corner (topology (mesh_of (start-5 c))) ≡ false
-passes-5 c = sym c.before.has-repeated-corner.ensures ∙ c.if1.false
+passes-5 : (c : tie.Else-has_repeated_corner) → repeated_corner (topology (mesh_of (start-5 c))) ≡ false
+passes-5 c = sym c.has_repeated_corner.ensures ∙ c.if-has_repeated_corner.false
 
-returns : tie.Need-returns
+returns : tie.Need-returns-then-has_repeated_corner
 returns c =
-    let i = c.before in
-    let r = i.before in
-    let s = r.before.before.before.before.before.before in
-    refused_is (mesh_of s) c.refused.result c.refused.ensures (λ e. omega arith)
-    (rw (cells_decide (mesh_of s) (passed s) 0, ← r.has-repeated-corner.ensures, i.if1.true) refl)
+    refused_is (mesh_of c.before.before.before.before.before.before.before.before) c.refused.result c.refused.ensures (λ e. omega arith)
+    (rw (cells_decide (mesh_of c.before.before.before.before.before.before.before.before) (passed c.before.before.before.before.before.before.before.before) 0, ← c.has_repeated_corner.ensures, c.if-has_repeated_corner.true) refl)
 
 -- ---- 6 passes
 
-abbrev before-6 : tie.Else2 → tie.Else1
+abbrev before-6 : tie.Else-has_duplicate_cell → tie.Else-has_repeated_corner
 before-6 c = c.before.before.before.before.before
 
-passes-6 : (c : tie.Else2) → duplicate_cell (topology (mesh_of (start-5 (before-6 c)))) ≡ false
-passes-6 c = sym c.before.before.before.has-duplicate-cell.ensures ∙ c.if2.false
+passes-6 : (c : tie.Else-has_duplicate_cell) → duplicate_cell (topology (mesh_of (start-5 (before-6 c)))) ≡ false
+passes-6 c = sym c.has_duplicate_cell.ensures ∙ c.if-has_duplicate_cell.false
 
-returns-2 : tie.Need-returns-2
+returns-2 : tie.Need-returns-then-has_duplicate_cell
 returns-2 c =
-    let i = c.before in
-    let d = i.before.before.before in
-    let e = d.before.before in
-    let s = start-5 e in
-    refused_is (mesh_of s) c.refused2.result c.refused2.ensures (λ e. omega arith)
-    (rw (cells_decide (mesh_of s) (passed s) 0, passes-5 e, ← d.has-duplicate-cell.ensures, i.if2.true) refl)
+    let s = start-5 c.before.before.before.before.before.before in
+    refused_is (mesh_of s) c.refused-then-has_duplicate_cell.result c.refused-then-has_duplicate_cell.ensures (λ c.before.before.before.before.before.before. omega arith)
+    (rw (cells_decide (mesh_of s) (passed s) 0, passes-5 c.before.before.before.before.before.before, ← c.has_duplicate_cell.ensures, c.if-has_duplicate_cell.true) refl)
 
-check-faces-requires : tie.Need-check-faces-requires
+check-faces-requires : tie.Need-check_faces-met-requires
 check-faces-requires c κs = let e = before-6 c.before in fewer_tables (mesh_of (start-5 e)) (passes-5 e)
 
 -- ---- 7 passes
 
-abbrev before-7 : tie.After-check-faces → tie.Else2
+abbrev before-7 : tie.After-check_faces-met → tie.Else-has_duplicate_cell
 before-7 c = c.before.before
 
-returns-3 : tie.Need-returns-3
+returns-3 : tie.Need-returns-in_default
 returns-3 c =
-    let t = c.before in
-    let f = t.before.before.before.before in
-    let d = before-7 f in
+    let d = before-7 c.before.before.before.before in
     let e = before-6 d in
     let s = start-5 e in
     let a = s.args in
-    refused_is (mesh_of s) c.refused3.result c.refused3.ensures (λ e. omega arith)
+    refused_is (mesh_of s) c.refused-in_default.result c.refused-in_default.ensures (λ e. omega arith)
     (rw (
       cells_decide (mesh_of s) (passed s) 0,
       passes-5 e,
       passes-6 d,
       mismatched_tables (mesh_of s),
-      faces_mismatch a.hexes.now a.quads.now a.segments.now f.check-faces.result t.enum_told.given.1 f.check-faces.ensures,
+      faces_mismatch a.hexes.now a.quads.now a.segments.now c.check_faces-met.result c.in_default.is c.check_faces-met.ensures,
     ) refl)
 
-abbrev faces-7 : tie.After-known-told → tie.After-check-faces
+abbrev faces-7 : tie.In-Matching → tie.After-check_faces-met
 faces-7 c = c.before.before.before.before.before
 
-abbrev start-7 : tie.After-known-told → tie.Start
+abbrev start-7 : tie.In-Matching → tie.Start
 start-7 c = start-5 (before-6 (before-7 (faces-7 c)))
 
-counted-7 : (c : tie.After-known-told) →
+counted-7 : (c : tie.In-Matching) →
     let m = mesh_of (start-7 c) in
-    (mismatched_face (topology (mesh [] m.hexes m.quads m.segments [])) ≡ false) × (c.before.met.given.0.0 ≡ count_in 2 m.hexes m.quads m.segments)
+    (mismatched_face (topology (mesh [] m.hexes m.quads m.segments [])) ≡ false) × (c.in-Matching.faces ≡ count_in 2 m.hexes m.quads m.segments)
 counted-7 c =
     let f = faces-7 c in
     let a = (start-7 c).args in
-    faces_match a.hexes.now a.quads.now a.segments.now f.check-faces.result c.before.met.given.1 f.check-faces.ensures
+    faces_match a.hexes.now a.quads.now a.segments.now f.check-faces.result c.in-Matching.is f.check-faces.ensures
 
-has-isolated-vertex-requires : tie.Need-has-isolated-vertex-requires
+has-isolated-vertex-requires : tie.Need-has_isolated_vertex-requires
 has-isolated-vertex-requires c κs =
     let f = faces-7 c.before in
-    let d = (before-7 f).before.before.before in
     let s = start-7 c.before in
-    (omega (arith, f.check-faces.kept.0, d.has-duplicate-cell.kept.0, s.pre.0), (passed s).whole)
+    (omega (arith, f.check-faces.kept.0, (before-7 f).has_duplicate_cell.auto.words, s.pre.0), (passed s).whole)
 
 -- ---- 8
 
-returns-4 : tie.Need-returns-4
+returns-4 : tie.Need-returns-then-has_isolated_vertex
 returns-4 c =
-    let i = c.before in
-    let v = i.before.before.before in
-    let k = v.before.before in
-    let d = before-7 (faces-7 k) in
+    let d = before-7 (faces-7 c.before.before.before.before.before.before) in
     let e = before-6 d in
-    let s = start-7 k in
-    refused_is (mesh_of s) c.refused4.result c.refused4.ensures (λ e. omega arith)
+    let s = start-7 c.before.before.before.before.before.before in
+    refused_is (mesh_of s) c.refused-then-has_isolated_vertex.result c.refused-then-has_isolated_vertex.ensures (λ e. omega arith)
     (rw (
       cells_decide (mesh_of s) (passed s) 0,
       passes-5 e,
       passes-6 d,
       mismatched_tables (mesh_of s),
-      (counted-7 k).0,
-      ← v.has-isolated-vertex.ensures,
-      i.if3.true,
+      (counted-7 c.before.before.before.before.before.before).0,
+      ← c.has_isolated_vertex.ensures,
+      c.if-has_isolated_vertex.true,
     ) refl)
 
-returns-5 : tie.Need-returns-5
+returns-5 : tie.Need-returns
 returns-5 c =
-    let v = c.before.before.before in
-    let k = v.before.before in
-    let d = before-7 (faces-7 k) in
+    let d = before-7 (faces-7 c.before.before.before.before.before) in
     let e = before-6 d in
-    let s = start-7 k in
+    let s = start-7 c.before.before.before.before.before in
     record {
       refusal = rw (
         cells_decide (mesh_of s) (passed s) 0,
         passes-5 e,
         passes-6 d,
         mismatched_tables (mesh_of s),
-        (counted-7 k).0,
-        ← v.has-isolated-vertex.ensures,
-        c.if3.false,
+        (counted-7 c.before.before.before.before.before).0,
+        ← c.has_isolated_vertex.ensures,
+        c.if-has_isolated_vertex.false,
       );
-      faces = λ z. (counted-7 k).1 ∙ count_mesh 2 (lit< tt) (mesh_of s);
+      faces = λ z. (counted-7 c.before.before.before.before.before).1 ∙ count_mesh 2 (lit< tt) (mesh_of s);
     }
 
 pub check_cells_with_spec : {M : Type 1} → statement M

@@ -9,13 +9,10 @@ use Rattle.checks.proofs.check_mesh.Tie as tie
 abbrev mesh_of : tie.Start → Mesh
 mesh_of s = mesh s.args.xs.now s.args.hexes.now s.args.quads.now s.args.segments.now s.args.points.now
 
-returns : tie.Need-returns
+returns : tie.Need-returns-then-refusal-ne0
 returns c =
-    let i = c.before in
-    let t = i.before in
-    let s = t.before.before.before.before.before.before in
-    refused_is (mesh_of s) c.refused.result c.refused.ensures i.if1.true
-    (t.table-refusal.ensures ∙ tables_refuse (mesh_of s) (λ e. i.if1.true (t.table-refusal.ensures ∙ e)))
+    refused_is (mesh_of c.before.before.before.before.before.before.before.before) c.refused.result c.refused.ensures c.if-refusal-ne0.true
+    (c.table_refusal-refusal.ensures ∙ tables_refuse (mesh_of c.before.before.before.before.before.before.before.before) (λ e. c.if-refusal-ne0.true (c.table_refusal-refusal.ensures ∙ e)))
 
 pub check_mesh_spec : {M : Type 1} → statement M
 check_mesh_spec =

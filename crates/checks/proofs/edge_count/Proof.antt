@@ -6,10 +6,9 @@ use Rattle.checks.proofs.Duplicates.{segments_alone}
 use Rattle.checks.proofs.edge_count.Statement.{statement}
 use Rattle.checks.proofs.edge_count.Tie as tie
 
-returns : tie.Need-returns
+returns : tie.Need-returns-then-quads-eq0
 returns c =
-    let s = c.before.before.before.before.before.before in
-    sym (segments_alone s.args.hexes.now s.args.quads.now s.args.segments.now c.before.if1.true (eqb-true _ 0 c.if2.true) s.requires.1)
+    sym (segments_alone c.args.hexes.now c.args.quads.now c.args.segments.now c.if-hexes-eq0.true (eqb-true _ 0 c.if-quads-eq0.true) c.requires.1)
 
 pub edge_count_spec : {M : Type 1} → statement M
 edge_count_spec =

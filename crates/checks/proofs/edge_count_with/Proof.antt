@@ -8,11 +8,10 @@ use Rattle.checks.proofs.Duplicates.{edge_keys_lem}
 use Rattle.checks.proofs.edge_count_with.Statement.{statement}
 use Rattle.checks.proofs.edge_count_with.Tie as tie
 
-returns : tie.Need-returns
+returns : tie.Need-returns-in-Keys
 returns c =
-    let d = c.before.before.before.before.before in
-    let a = d.before.before.before.before.before.before.args in
-    let n = rw c.before.tally.given.1 at d.count-edges.ensures in
+    let a = c.args in
+    let n = rw c.in-Keys.is at c.count_edges-tally.ensures in
     n ∙ ap (λ (ks : List Key). length (distinct ks)) (edge_keys_lem a.hexes.now a.quads.now a.segments.now)
 
 pub edge_count_with_spec : {M : Type 1} → statement M

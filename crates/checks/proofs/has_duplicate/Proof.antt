@@ -12,33 +12,28 @@ use Rattle.checks.proofs.has_duplicate.Statement.{statement}
 use Rattle.checks.proofs.has_duplicate.Tie as tie
 
 -- how many corners a cell has
-size : (c : tie.After-corners-of) → (0 < c.corners-of.result) × (c.corners-of.result ≤ 8)
-size c = rw c.corners-of.ensures (some_corners c.before.before.before.args.of)
+size : (c : tie.After-corners_of-k) → (0 < c.corners_of-k.result) × (c.corners_of-k.result ≤ 8)
+size c = rw c.corners_of-k.ensures (some_corners c.args.of)
 
 -- the key that is lent
-key : (c : tie.After-corners-of) → length (take c.corners-of.result eight) ≡ c.corners-of.result
-key c = front_of_eight c.corners-of.result (size c).1
+key : (c : tie.After-corners_of-k) → length (take c.corners_of-k.result eight) ≡ c.corners_of-k.result
+key c = front_of_eight c.corners_of-k.result (size c).1
 
-has-duplicate-requires : tie.Need-has-duplicate-requires
+has-duplicate-requires : tie.Need-has_duplicate-requires
 has-duplicate-requires c κs =
-    let b = c.before.before.before.before.before.before.before.before.before in
-    (size b, rw b.corners-of.ensures b.before.before.before.requires.1)
+    (size c.before.before.before.before.before.before.before.before, rw c.corners_of-k.ensures c.requires.1)
 
-returns : tie.Need-returns
+returns : tie.Need-returns-in-Keys
 returns c =
-    let d = c.before.before.before.before.before.before in
-    let b = d.before.before.before in
-    let s = b.before.before.before in
-    let cells = s.args.cells.now in
-    let n = rw c.before.tally.given.1 at d.count-table.ensures in
-    rw b.corners-of.ensures
-    (duplicates_by_count (cell_corners s.args.of) cells c.before.tally.given.0.0
-    (n ∙ ap (λ (ks : List Key). length (distinct ks)) (cell_keys s.args.of s.requires.0 cells)))
+    let cells = c.args.cells.now in
+    let n = rw c.in-Keys.is at c.count_table-tally.ensures in
+    rw c.corners_of-k.ensures
+    (duplicates_by_count (cell_corners c.args.of) cells c.in-Keys.n
+    (n ∙ ap (λ (ks : List Key). length (distinct ks)) (cell_keys c.args.of c.requires.0 cells)))
 
-returns-2 : tie.Need-returns-2
+returns-2 : tie.Need-returns-in-Full
 returns-2 c =
-    let b = c.before.before.before.before.before.before.before.before.before.before.before.before in
-    rw b.corners-of.ensures at c.before.before.has-duplicate.ensures
+    rw c.corners_of-k.ensures at c.has_duplicate.ensures
 
 pub has_duplicate_spec : {M : Type 1} → statement M
 has_duplicate_spec =
@@ -47,9 +42,9 @@ has_duplicate_spec =
     (λ c κs. search rules)
     (λ c. (size c.before).1)
     (λ c. sym (key c.before.before))
-    (λ c κs. let b = c.before.before in key b ∙ b.corners-of.ensures ∙ sym b.before.before.before.requires.0)
+    (λ c κs. key c.before.before ∙ c.corners_of-k.ensures ∙ sym c.requires.0)
     (λ c. search rules)
-    (λ c. (size c.before.before.before.before.before.before.before.before.before).0)
+    (λ c. (size c.before.before.before.before.before.before.before).0)
     (λ c. search rules)
     has-duplicate-requires
     (λ c. search rules)

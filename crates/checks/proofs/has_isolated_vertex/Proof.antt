@@ -11,9 +11,7 @@ mesh_of s = mesh s.args.xs.now s.args.hexes.now s.args.quads.now s.args.segments
 
 returns : tie.Need-returns
 returns c =
-    let d = c.before.before in
-    let s = d.before.before.before.before.before.before.before in
-    d.has-isolated-vertex.ensures ∙ sym (isolated_tables (mesh_of s) s.requires.1)
+    c.has_isolated_vertex.ensures ∙ sym (isolated_tables (mesh_of c.before.before.before.before.before.before.before.before.before) c.requires.1)
 
 pub has_isolated_vertex_spec : {M : Type 1} → statement M
 has_isolated_vertex_spec = tie.close (tie.spec (λ c κs. search rules) (λ c. search rules) returns)

@@ -6,8 +6,8 @@ use borrow.Author.Tests.{leb-false}
 use Rattle.checks.proofs.is_little.Statement.{statement}
 use Rattle.checks.proofs.is_little.Tie as tie
 
-returns : tie.Need-returns
-returns c h = let a = c.before.args in omega (arith, leb-false (a.words / 6) a.corners h)
+returns : tie.Need-returns-then-words-lt8192
+returns c h = let a = c.args in omega (arith, leb-false (a.words / 6) a.corners h)
 
 pub is_little_spec : {M : Type 1} → statement M
 is_little_spec = tie.close (tie.spec returns (λ c. search rules))

@@ -41,14 +41,12 @@ sizes-are m e f edge face =
 
 returns : tie.Need-returns
 returns c =
-    let e = c.before.before in
-    let s = e.before.before.before.before.before.before.before in
-    sizes-are (mesh_of s) e.edge_count.result s.args.face_count (e.edge_count.ensures ∙ count_mesh 1 (lit< tt) (mesh_of s)) s.requires.1.1
+    sizes-are (mesh_of c.before.before.before.before.before.before.before.before.before) c.edge_count-edges.result c.args.face_count (c.edge_count-edges.ensures ∙ count_mesh 1 (lit< tt) (mesh_of c.before.before.before.before.before.before.before.before.before)) c.requires.1.1
 
 pub mesh_sizes_spec : {M : Type 1} → statement M
 mesh_sizes_spec =
     tie.close
     (tie.spec
-    (λ c κs. let s = c.before.before.before.before.before.before in (fewer_tables (mesh_of s) s.requires.0, no_duplicates (mesh_of s) s.requires.1.0 segment))
+    (λ c κs. (fewer_tables (mesh_of c.before.before.before.before.before.before) c.requires.0, no_duplicates (mesh_of c.before.before.before.before.before.before) c.requires.1.0 segment))
     (λ c. search rules)
     returns)

@@ -13,20 +13,16 @@ use Rattle.checks.proofs.by_classes.check_faces.Tie as tie
 abbrev mesh_of : tie.Start → Mesh
 mesh_of s = mesh [] s.args.hexes.now s.args.quads.now s.args.segments.now []
 
-returns : tie.Need-returns
+returns : tie.Need-returns-in-Passes
 returns c =
-    let f = c.before.before.before.before.before.before in
-    let s = f.before.before.before.before.before.before.before in
-    let t = topology (mesh_of s) in
-    let a = found_passes Faces (met t 2) f.find.result c.before.found.given.1 f.find.ensures in
-    (agreeing_matched t (mesh_sized (mesh_of s)) s.requires a, a.count_is)
+    let t = topology (mesh_of c.before.before.before.before.before.before.before.before.before.before.before) in
+    let a = found_passes Faces (met t 2) c.find-found.result c.in-Passes.is c.find-found.ensures in
+    (agreeing_matched t (mesh_sized (mesh_of c.before.before.before.before.before.before.before.before.before.before.before)) c.requires a, a.count_is)
 
-returns-2 : tie.Need-returns-2
+returns-2 : tie.Need-returns-in-Fails
 returns-2 c =
-    let f = c.before.before.before.before.before in
-    let s = f.before.before.before.before.before.before.before in
-    let t = topology (mesh_of s) in
-    apart_mismatched t (mesh_sized (mesh_of s)) s.requires (found_fails Faces (met t 2) f.find.result c.enum_told.given.1 f.find.ensures)
+    let t = topology (mesh_of c.before.before.before.before.before.before.before.before.before.before.before) in
+    apart_mismatched t (mesh_sized (mesh_of c.before.before.before.before.before.before.before.before.before.before.before)) c.requires (found_fails Faces (met t 2) c.find-found.result c.in-Fails.is c.find-found.ensures)
 
 pub check_faces_spec : {M : Type 1} → statement M
 check_faces_spec =

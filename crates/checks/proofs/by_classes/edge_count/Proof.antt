@@ -6,11 +6,10 @@ use Rattle.checks.proofs.Sweeps.{found_passes}
 use Rattle.checks.proofs.by_classes.edge_count.Statement.{statement}
 use Rattle.checks.proofs.by_classes.edge_count.Tie as tie
 
-returns-2 : tie.Need-returns-2
+returns-2 : tie.Need-returns
 returns-2 c =
-    let f = c.before.before.before.before.before.before in
-    let a = f.before.before.before.before.before.before.before.args in
-    (found_passes Edges (met_in 1 a.hexes.now a.quads.now a.segments.now) f.find.result c.before.found.given.1 f.find.ensures).count_is
+    let a = c.args in
+    (found_passes Edges (met_in 1 a.hexes.now a.quads.now a.segments.now) c.find-found.result c.in-Passes.is c.find-found.ensures).count_is
 
 pub edge_count_spec : {M : Type 1} → statement M
 edge_count_spec =

@@ -15,14 +15,12 @@ use Rattle.checks.proofs.by_classes.has_duplicate.Tie as tie
 key : (s : tie.Start) → length (take s.args.k eight) ≡ s.args.k
 key s = front_of_eight s.args.k s.requires.0.1
 
-returns-2 : tie.Need-returns-2
+returns-2 : tie.Need-returns
 returns-2 c =
-    let f = c.before.before.before.before.before.before in
-    let s = f.before.before.before.before.before in
-    let k = s.args.k in
-    let cells = s.args.cells.now in
-    duplicates_by_count k cells c.before.found.given.0.0
-    (found_passes Cells (cut k cells) f.find.result c.before.found.given.1 (rw (key s) at f.find.ensures)).count_is
+    let k = c.args.k in
+    let cells = c.args.cells.now in
+    duplicates_by_count k cells c.in-Passes.n
+    (found_passes Cells (cut k cells) c.find-found.result c.in-Passes.is (rw (key c.before.before.before.before.before.before.before.before.before) at c.find-found.ensures)).count_is
 
 pub has_duplicate_spec : {M : Type 1} → statement M
 has_duplicate_spec =
@@ -30,11 +28,11 @@ has_duplicate_spec =
     (tie.spec
     (λ c. search rules)
     (λ c. sym (key c.before.before.before.before))
-    (λ c κs. let s = c.before.before.before.before in (rw (key s) s.requires.0, lit< tt))
+    (λ c κs. (rw (key c.before.before.before.before) c.requires.0, lit< tt))
     (λ c. search rules)
     (λ c κs. search rules)
     (λ c. search rules)
     (λ c. search rules)
-    (λ c. c.before.before.before.before.before.before.before.before.before.before.before.requires.0.0)
+    (λ c. c.requires.0.0)
     (λ c. search rules)
     returns-2)

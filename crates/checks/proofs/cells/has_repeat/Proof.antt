@@ -10,31 +10,27 @@ use Rattle.checks.proofs.Slices.{rest_part}
 use Rattle.checks.proofs.cells.has_repeat.Statement.{statement}
 use Rattle.checks.proofs.cells.has_repeat.Tie as tie
 
-abbrev invariant-loop : tie.invariant-loop
+abbrev invariant-loop : tie.invariant-loop-i
 invariant-loop cell i₀ i = Scanning (repeats eqb) (repeats eqb cell) cell i
 
-abbrev decreases-loop : tie.decreases-loop
+abbrev decreases-loop : tie.decreases-loop-i
 decreases-loop cell i₀ i = length cell - i
 
 -- the part behind corner i is what the call looks at
-tested : (c : tie.After-has-number invariant-loop decreases-loop) →
-    let l = c.before.before.before.before in
-    let cell = l.before.before.args.cell.now in
-    c.has-number.result ≡ any (eqb (get_or cell l.loop.i 0)) (drop (l.loop.i + 1) cell)
+tested : (c : tie.After-has_number invariant-loop decreases-loop) →
+    let cell = c.args.cell.now in
+    c.has_number.result ≡ any (eqb (get_or cell c.loop-i.i 0)) (drop (c.loop-i.i + 1) cell)
 unfolding has
 tested c =
-    let l = c.before.before.before.before in
-    rw (rest_part (l.loop.i + 1) l.before.before.args.cell.now) at c.has-number.ensures
+    rw (rest_part (c.loop-i.i + 1) c.args.cell.now) at c.has_number.ensures
 
-returns : tie.Need-returns invariant-loop decreases-loop
+returns : tie.Need-returns-then-has_number invariant-loop decreases-loop
 returns c =
-    let l = c.before.before.before.before in
-    scan_hit (repeats_search eqb) 0 l.before.loop.invariant l.loop-test.true (sym (tested c.before) ∙ c.if1.true)
+    scan_hit (repeats_search eqb) 0 c.loop-i.invariant c.loop-i-test.true (sym (tested c.before) ∙ c.if-has_number.true)
 
-loop-again : tie.Need-loop-preserved invariant-loop decreases-loop
+loop-again : tie.Need-loop-i-preserved invariant-loop decreases-loop
 loop-again c =
-    let l = c.before.before.before.before in
-    scan_miss (repeats_search eqb) 0 l.before.loop.invariant l.loop-test.true (sym (tested c.before) ∙ c.if1.false)
+    scan_miss (repeats_search eqb) 0 c.loop-i.invariant c.loop-i-test.true (sym (tested c.before) ∙ c.if-has_number.false)
 
 pub has_repeat_spec : {M : Type 1} → statement M
 has_repeat_spec =
@@ -54,4 +50,4 @@ has_repeat_spec =
     returns
     (λ c. omega arith)
     loop-again
-    (λ c. scan_end (repeats_search eqb) c.before.loop.invariant c.loop-test.false))
+    (λ c. scan_end (repeats_search eqb) c.loop-i.invariant c.loop-i-test.false))

@@ -5,17 +5,17 @@ use Rattle.lists.proofs.Tables.{length_cut}
 use Rattle.checks.proofs.classes.count_of.Statement.{statement}
 use Rattle.checks.proofs.classes.count_of.Tie as tie
 
-div-result : tie.Need-nonzero-div-result
-div-result c = (rw c.enum-told3.given.1 at c.before.before.before.before.before.requires).0
+div-result : tie.Need-nonzero_div-result
+div-result c = (rw c.in-Cells.is at c.requires).0
 
-returns : tie.Need-returns
-returns c = rw c.before.enum_told.given.1 c.part_count.ensures
+returns : tie.Need-returns-in-Edges
+returns c = rw c.in-Edges.is c.part_count.ensures
 
-returns-2 : tie.Need-returns-2
-returns-2 c = rw c.before.enum-told2.given.1 c.part-count2.ensures
+returns-2 : tie.Need-returns-in-Faces
+returns-2 c = rw c.in-Faces.is c.part_count-in-Faces.ensures
 
-returns-3 : tie.Need-returns-3
-returns-3 c = let a = c.before.before.before.before.before.args in rw c.enum-told3.given.1 (sym (length_cut a.k a.hexes.now))
+returns-3 : tie.Need-returns-in-Cells
+returns-3 c = let a = c.args in rw c.in-Cells.is (sym (length_cut a.k a.hexes.now))
 
 pub count_of_spec : {M : Type 1} → statement M
 count_of_spec =

@@ -7,38 +7,35 @@ use lib.ListN.{length}
 use Rattle.checks.proofs.classes.find.Statement.{statement}
 use Rattle.checks.proofs.classes.find.Tie as tie
 
-abbrev invariant-loop : tie.invariant-loop
+abbrev invariant-loop : tie.invariant-loop-classes
 invariant-loop w₀ of hexes quads segments key₀ fewest classes₀ w key classes = (length w ≡ length w₀) × (length key ≡ length key₀) × (0 < classes)
 
-abbrev decreases-loop : tie.decreases-loop
+abbrev decreases-loop : tie.decreases-loop-classes
 decreases-loop w₀ of hexes quads segments key₀ fewest classes₀ w key classes = 2048 - classes
 
 -- where the call began
-abbrev start : tie.At-loop invariant-loop decreases-loop → tie.Start invariant-loop decreases-loop
+abbrev start : tie.At-loop-classes invariant-loop decreases-loop → tie.Start invariant-loop decreases-loop
 start l = l.before.before.before.before.before.before.before
 
-sweep-all-requires : tie.Need-sweep-all-requires invariant-loop decreases-loop
+sweep-all-requires : tie.Need-sweep_all-found-requires invariant-loop decreases-loop
 sweep-all-requires c κs =
-    let t = c.before.before in
-    let l = t.before in
-    let s = start l in
-    rw (l.loop.invariant.0, l.loop.invariant.1) (omega (arith, l.before.if1.false), (s.pre.0, (l.loop.invariant.2, t.loop-test.true)))
+    let s = start c.before.before.before in
+    rw (c.loop-classes.invariant.0, c.loop-classes.invariant.1) (omega (arith, c.if-w-eq0.false), (s.pre.0, (c.loop-classes.invariant.2, c.loop-classes-test.true)))
 
 -- the loop that a sweep is in
-abbrev loop-of : tie.After-sweep-all invariant-loop decreases-loop → tie.At-loop invariant-loop decreases-loop
+abbrev loop-of : tie.After-sweep_all-found invariant-loop decreases-loop → tie.At-loop-classes invariant-loop decreases-loop
 loop-of m = m.before.before.before.before
 
-returns-2 : tie.Need-returns-2 invariant-loop decreases-loop
-returns-2 c = let m = c.before.before.before.before.before in rw (loop-of m).loop.invariant.1 at m.sweep-all.ensures
+returns-2 : tie.Need-returns-in_default invariant-loop decreases-loop
+returns-2 c = rw (loop-of c.before.before.before.before.before).loop-classes.invariant.1 at c.sweep_all-found.ensures
 
-loop-again : tie.Need-loop-preserved invariant-loop decreases-loop
+loop-again : tie.Need-loop-classes-preserved invariant-loop decreases-loop
 loop-again c =
-    let m = c.before.before.before.before.before.before in
-    let l = loop-of m in
-    (m.sweep-all.auto.0 ∙ l.loop.inv.0, m.sweep-all.auto.1.1.1.1.1.0 ∙ l.loop.inv.1, omega (arith, l.loop.inv.2))
+    let l = loop-of c.before.before.before.before.before in
+    (c.sweep_all-found.auto.w ∙ l.loop.inv.0, c.sweep_all-found.auto.key ∙ l.loop.inv.1, omega (arith, l.loop.inv.2))
 
-few : (c : tie.After-enum-told invariant-loop decreases-loop) → (loop-of c.before.before.before.before.before.before).loop.classes ≤ 1024
-few c = let m = c.before.before.before.before.before.before in m.before.before.before.loop-test.true
+few : (c : tie.In-Unknown invariant-loop decreases-loop) → (loop-of c.before.before.before.before.before).loop-classes.classes ≤ 1024
+few c = c.loop-classes-test.true
 
 pub find_spec : {M : Type 1} → statement M
 find_spec =
@@ -47,16 +44,16 @@ find_spec =
     invariant-loop
     decreases-loop
     (λ c. tt)
-    (λ c. (refl, refl, c.before.before.before.before.before.before.requires.1))
+    (λ c. (refl, refl, c.requires.1))
     sweep-all-requires
     (λ c. search rules)
-    (λ c. let m = c.before.before.before.before.before in m.sweep-all.auto.0 ∙ (loop-of m).loop.invariant.0)
-    (λ c. let m = c.before.before.before.before.before in m.sweep-all.auto.1.1.1.1.1.0 ∙ (loop-of m).loop.invariant.1)
+    (λ c. c.sweep_all-found.auto.w ∙ (loop-of c.before.before.before.before.before).loop-classes.invariant.0)
+    (λ c. c.sweep_all-found.auto.key ∙ (loop-of c.before.before.before.before.before).loop-classes.invariant.1)
     returns-2
     (λ c. omega (arith, few c))
     (λ c. omega (arith, few c))
     (λ c. omega (arith, few c))
     loop-again
-    (λ c. c.before.loop.invariant.0)
-    (λ c. c.before.loop.invariant.1)
+    (λ c. c.loop-classes.invariant.0)
+    (λ c. c.loop-classes.invariant.1)
     (λ c. tt))

@@ -7,24 +7,19 @@ use Rattle.checks.proofs.ClassLaws.{few_corners}
 use Rattle.checks.proofs.classes.meet_in_class.Statement.{statement}
 use Rattle.checks.proofs.classes.meet_in_class.Tie as tie
 
-class-of-requires : tie.Need-class-of-requires
+class-of-requires : tie.Need-class_of-requires
 class-of-requires c κs =
-    let s = c.before.before.before in
-    (few_corners s.args.of (length s.args.corners.now) s.requires.0, s.requires.1.0)
+    (few_corners c.args.of (length c.args.corners.now) c.requires.0, c.requires.1.0)
 
-returns : tie.Need-returns
+returns : tie.Need-returns-then-class_of-class
 returns c =
-    let o = c.before in
-    record { inside = λ e. absurd (c.if1.true (o.class_of.ensures ∙ eqb-true _ _ e)); outside = λ e. (refl, refl) }
+    record { inside = λ e. absurd (c.if-class_of-class.true (c.class_of.ensures ∙ eqb-true _ _ e)); outside = λ e. (refl, refl) }
 
-returns-2 : tie.Need-returns-2
+returns-2 : tie.Need-returns
 returns-2 c =
-    let m = c.before.before.before.before in
-    let t = m.before.before.before in
-    let i = t.before.before in
     record {
-      inside = λ e. rw t.tag_of.ensures at m.meet-corners.ensures;
-      outside = λ e. absurd (eqb-false _ _ e (sym i.before.class_of.ensures ∙ i.if1.false));
+      inside = λ e. rw c.tag_of-tag.ensures at c.meet_corners.ensures;
+      outside = λ e. absurd (eqb-false _ _ e (sym c.class_of.ensures ∙ c.if-class_of-class.false));
     }
 
 pub meet_in_class_spec : {M : Type 1} → statement M
@@ -34,8 +29,8 @@ meet_in_class_spec =
     class-of-requires
     (λ c. search rules)
     returns
-    (λ c κs. c.before.before.before.before.before.before.requires.0)
-    (λ c κs. c.before.before.before.before.before.before.before.before.before.requires.1.1)
+    (λ c κs. c.requires.0)
+    (λ c κs. c.requires.1.1)
     (λ c. search rules)
     (λ c. search rules)
     returns-2)

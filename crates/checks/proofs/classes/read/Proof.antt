@@ -21,67 +21,61 @@ whole old new e = sym (sets_front old new (omega arith)) ∙ sets_whole old new 
 
 -- ---- edges
 
-two : (c : tie.After-enum-told) → length c.before.before.before.before.before.before.args.corners.now ≡ 2
-two c = rw c.enum_told.given.1 at c.before.before.before.before.before.before.requires.0
+two : (c : tie.In-Edges) → length c.args.corners.now ≡ 2
+two c = rw c.in-Edges.is at c.requires.0
 
-part-at-requires : tie.Need-part-at-requires
-part-at-requires c κs = ((lit< tt, lit< tt), rw c.enum_told.given.1 at c.before.before.before.before.before.before.requires.1)
+part-at-requires : tie.Need-part_at-part-requires
+part-at-requires c κs = ((lit< tt, lit< tt), rw c.in-Edges.is at c.requires.1)
 
-pair : (c : tie.After-part-at) → length (take 2 c.part_at.result) ≡ 2
-pair c = length-take-le 2 c.part_at.result (omega (arith, c.part_at.type-inv))
+pair : (c : tie.After-part_at-part) → length (take 2 c.part_at-part.result) ≡ 2
+pair c = length-take-le 2 c.part_at-part.result (omega (arith, c.part_at-part.type-inv))
 
-returns : tie.Need-returns
+returns : tie.Need-returns-in-Edges
 returns c =
-    let p = c.before.before.before.before.before in
-    let e = p.before in
-    let a = e.before.before.before.before.before.before.args in
-    rw e.enum_told.given.1
-    (c.before.before.copy-u32.ensures ∙ whole a.corners.now (take 2 p.part_at.result) (pair p ∙ sym (two e)) ∙ p.part_at.ensures)
+    let a = c.args in
+    rw c.in-Edges.is
+    (c.copy_u32.ensures ∙ whole a.corners.now (take 2 c.part_at-part.result) (pair c.before.before.before.before.before ∙ sym (two c.before.before.before.before.before.before)) ∙ c.part_at-part.ensures)
 
 -- ---- faces
 
-four : (c : tie.After-enum-told2) → length c.before.before.before.before.before.before.args.corners.now ≡ 4
-four c = rw c.enum-told2.given.1 at c.before.before.before.before.before.before.requires.0
+four : (c : tie.In-Faces) → length c.args.corners.now ≡ 4
+four c = rw c.in-Faces.is at c.requires.0
 
-part-at-requires-2 : tie.Need-part-at-requires-2
-part-at-requires-2 c κs = ((lit< tt, lit< tt), rw c.enum-told2.given.1 at c.before.before.before.before.before.before.requires.1)
+part-at-requires-2 : tie.Need-part_at-part-requires-in-Faces
+part-at-requires-2 c κs = ((lit< tt, lit< tt), rw c.in-Faces.is at c.requires.1)
 
-returns-2 : tie.Need-returns-2
+returns-2 : tie.Need-returns-in-Faces
 returns-2 c =
-    let p = c.before.before.before.before.before in
-    let e = p.before in
-    let a = e.before.before.before.before.before.before.args in
-    let l : length p.part-at2.result ≡ 4 = omega (arith, p.part-at2.type-inv) in
-    rw e.enum-told2.given.1
-    (c.before.before.copy-u322.ensures
-    ∙ whole a.corners.now p.part-at2.result (l ∙ sym (four e))
-    ∙ sym (take_all 4 p.part-at2.result (omega arith))
-    ∙ p.part-at2.ensures)
+    let a = c.args in
+    let l : length c.part_at-part-in-Faces.result ≡ 4 = omega (arith, c.part_at-part-in-Faces.type-inv) in
+    rw c.in-Faces.is
+    (c.copy_u32-in-Faces.ensures
+    ∙ whole a.corners.now c.part_at-part-in-Faces.result (l ∙ sym (four c.before.before.before.before.before.before))
+    ∙ sym (take_all 4 c.part_at-part-in-Faces.result (omega arith))
+    ∙ c.part_at-part-in-Faces.ensures)
 
 -- ---- cells
 
-listed : (c : tie.After-enum-told3) →
-    let a = c.before.before.before.before.before.before.args in
+listed : (c : tie.In-Cells) →
+    let a = c.args in
     a.i < length (cut (length a.corners.now) a.hexes.now)
-listed c = rw c.enum-told3.given.1 at c.before.before.before.before.before.before.requires.1
+listed c = rw c.in-Cells.is at c.requires.1
 
-within : (c : tie.After-enum-told3) →
-    let a = c.before.before.before.before.before.before.args in
+within : (c : tie.In-Cells) →
+    let a = c.args in
     length a.corners.now * a.i + length a.corners.now ≤ length a.hexes.now
 within c =
-    let a = c.before.before.before.before.before.before.args in
+    let a = c.args in
     entry_within (length a.corners.now) a.i a.hexes.now (listed c)
 
-returns-3 : tie.Need-returns-3
+returns-3 : tie.Need-returns-in-Cells
 returns-3 c =
-    let e = c.before.before.before.before.before in
-    let s = e.before.before.before.before.before.before in
-    let k = length s.args.corners.now in
-    let cells = s.args.hexes.now in
-    let cell = get_or (cut k cells) s.args.i [] in
-    let part = entry_part k s.args.i cells (listed e) in
-    let size = length_entry k cells cell (get_or_in (cut k cells) s.args.i [] (listed e)) in
-    rw e.enum-told3.given.1 (rw part at c.before.before.copy-u323.ensures ∙ whole s.args.corners.now cell size)
+    let k = length c.args.corners.now in
+    let cells = c.args.hexes.now in
+    let cell = get_or (cut k cells) c.args.i [] in
+    let part = entry_part k c.args.i cells (listed c.before.before.before.before.before) in
+    let size = length_entry k cells cell (get_or_in (cut k cells) c.args.i [] (listed c.before.before.before.before.before)) in
+    rw c.in-Cells.is (rw part at c.copy_u32-in-Cells.ensures ∙ whole c.args.corners.now cell size)
 
 pub read_spec : {M : Type 1} → statement M
 read_spec =

@@ -6,7 +6,7 @@ use native.Mathlib.Omega.{arith}
 use Rattle.checks.proofs.classes.square.Statement.{statement}
 use Rattle.checks.proofs.classes.square.Tie as tie
 
-mul-result : tie.Need-overflow-mul-result
+mul-result : tie.Need-overflow_mul-result
 mul-result c = record { fits = omega (arith, mul-le-mul {n₁ = c.args.x} {m₁ = c.args.x} {n₂ = 4294967295} {m₂ = 4294967295} (omega arith) (omega arith)) }
 
 returns : tie.Need-returns

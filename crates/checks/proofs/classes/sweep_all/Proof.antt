@@ -11,58 +11,54 @@ use Rattle.checks.proofs.Sweeps.{Totalling, total_start, total_turn, total_few, 
 use Rattle.checks.proofs.classes.sweep_all.Statement.{statement}
 use Rattle.checks.proofs.classes.sweep_all.Tie as tie
 
-abbrev invariant-loop : tie.invariant-loop
+abbrev invariant-loop : tie.invariant-loop-class
 invariant-loop w₀ of hexes quads segments key₀ classes n₀ class₀ w key n class =
     (length w ≡ length w₀) × (length key ≡ length key₀) × Totalling of classes (walked of (length key₀) hexes quads segments) n class
 
-abbrev decreases-loop : tie.decreases-loop
+abbrev decreases-loop : tie.decreases-loop-class
 decreases-loop w₀ of hexes quads segments key₀ classes n₀ class₀ w key n class = classes - class
 
 -- where the call began
-abbrev start : tie.At-loop invariant-loop decreases-loop → tie.Start invariant-loop decreases-loop
+abbrev start : tie.At-loop-class invariant-loop decreases-loop → tie.Start invariant-loop decreases-loop
 start l = l.before.before.before.before.before.before
 
 -- what is walked
 abbrev ps : tie.Start invariant-loop decreases-loop → List (List ℕ)
 ps s = walked s.args.of (length s.args.key.now) s.args.hexes.now s.args.quads.now s.args.segments.now
 
-sweep-requires : tie.Need-sweep-requires invariant-loop decreases-loop
+sweep-requires : tie.Need-sweep-found-requires invariant-loop decreases-loop
 sweep-requires c κs =
-    let l = c.before.before.before in
-    let s = start l in
-    rw (l.loop.invariant.0, l.loop.invariant.1) (s.pre.0, (s.pre.1.0, s.pre.1.1.1))
+    let s = start c.before.before.before in
+    rw (c.loop-class.invariant.0, c.loop-class.invariant.1) (s.pre.0, (s.pre.1.0, s.pre.1.1.1))
 
 -- the loop that a sweep is in
-abbrev loop-of : tie.After-sweep invariant-loop decreases-loop → tie.At-loop invariant-loop decreases-loop
+abbrev loop-of : tie.After-sweep-found invariant-loop decreases-loop → tie.At-loop-class invariant-loop decreases-loop
 loop-of m = m.before.before.before.before
 
-returns : tie.Need-returns invariant-loop decreases-loop
+returns : tie.Need-returns-in_default invariant-loop decreases-loop
 returns c =
-    let m = c.before.before.before.before.before in
-    let l = loop-of m in
-    found_all (start l).args.of (start l).args.classes l.loop.class (ps (start l)) m.sweep.result c.match.keys2
-    (rw l.loop.inv.1 at m.sweep.ensures)
+    let l = loop-of c.before.before.before.before.before in
+    found_all (start l).args.of (start l).args.classes l.loop.class (ps (start l)) c.sweep-found.result c.in_default.in_default-own.keys2
+    (rw l.loop.inv.1 at c.sweep-found.ensures)
 
 -- one class more
-turn : (c : tie.After-known-told invariant-loop decreases-loop) →
-    let l = loop-of c.before.before.before.before.before.before.before in
-    Totalling (start l).args.of (start l).args.classes (ps (start l)) (l.loop.n + c.before.found.given.0.0) (l.loop.class + 1)
+turn : (c : tie.In-Passes invariant-loop decreases-loop) →
+    let l = loop-of c.before.before.before.before.before in
+    Totalling (start l).args.of (start l).args.classes (ps (start l)) (l.loop.n + c.in-Passes.more) (l.loop.class + 1)
 turn c =
-    let m = c.before.before.before.before.before.before.before in
-    let l = loop-of m in
-    total_turn l.loop.inv.2 m.before.before.before.loop-test.true m.sweep.result c.before.found.given.1
-    (rw l.loop.inv.1 at m.sweep.ensures)
+    let l = loop-of c.before.before.before.before.before in
+    total_turn l.loop.inv.2 c.loop-class-test.true c.sweep-found.result c.in-Passes.is
+    (rw l.loop.inv.1 at c.sweep-found.ensures)
 
 fits : (s : tie.Start invariant-loop decreases-loop) → length (ps s) < 2 ^ 64
 fits s =
     walked_fits s.args.of (length s.args.key.now) s.args.hexes.now s.args.quads.now s.args.segments.now
     s.well-formed.1.1.0.1 s.well-formed.1.1.1.0.1 s.well-formed.1.1.1.1.0.1
 
-loop-again : tie.Need-loop-preserved invariant-loop decreases-loop
+loop-again : tie.Need-loop-class-preserved invariant-loop decreases-loop
 loop-again c =
-    let m = c.before.before.before.before.before.before.before in
-    let l = loop-of m in
-    (m.sweep.auto.0 ∙ l.loop.inv.0, m.sweep.auto.1.1.1.1.1.0 ∙ l.loop.inv.1, turn c)
+    let l = loop-of c.before.before.before.before.before in
+    (c.sweep-found.auto.w ∙ l.loop.inv.0, c.sweep-found.auto.key ∙ l.loop.inv.1, turn c)
 
 pub sweep_all_spec : {M : Type 1} → statement M
 sweep_all_spec =
@@ -73,13 +69,13 @@ sweep_all_spec =
     (λ c. (refl, refl, total_start _ _ _))
     sweep-requires
     (λ c. search rules)
-    (λ c. let m = c.before.before.before.before.before in m.sweep.auto.0 ∙ (loop-of m).loop.invariant.0)
-    (λ c. let m = c.before.before.before.before.before in m.sweep.auto.1.1.1.1.1.0 ∙ (loop-of m).loop.invariant.1)
+    (λ c. c.sweep-found.auto.w ∙ (loop-of c.before.before.before.before.before).loop-class.invariant.0)
+    (λ c. c.sweep-found.auto.key ∙ (loop-of c.before.before.before.before.before).loop-class.invariant.1)
     returns
-    (λ c. omega (arith, total_few (turn c), fits (start (loop-of c.before.before.before.before.before.before.before))))
-    (λ c. omega (arith, c.before.before.before.before.before.before.before.before.before.before.loop-test.true))
-    (λ c. omega (arith, c.before.before.before.before.before.before.before.before.before.before.loop-test.true))
+    (λ c. omega (arith, total_few (turn c), fits (start (loop-of c.before.before.before.before.before))))
+    (λ c. omega (arith, c.loop-class-test.true))
+    (λ c. omega (arith, c.loop-class-test.true))
     loop-again
-    (λ c. c.before.loop.invariant.0)
-    (λ c. c.before.loop.invariant.1)
-    (λ c. let l = c.before in total_end l.loop.invariant.2 (start l).requires.1.1.0 c.loop-test.false))
+    (λ c. c.loop-class.invariant.0)
+    (λ c. c.loop-class.invariant.1)
+    (λ c. total_end c.loop-class.invariant.2 (start c.before).requires.1.1.0 c.loop-class-test.false))

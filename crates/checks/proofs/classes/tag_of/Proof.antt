@@ -15,17 +15,17 @@ use Rattle.checks.specs.contracts.classes.Walk.{the_type}
 use Rattle.checks.proofs.classes.tag_of.Statement.{statement}
 use Rattle.checks.proofs.classes.tag_of.Tie as tie
 
-four : (c : tie.After-enum-told) → length c.before.before.before.args.corners.now ≡ 4
-four c = rw c.enum_told.given.1 at c.before.before.before.requires
+four : (c : tie.In-Faces) → length c.args.corners.now ≡ 4
+four c = rw c.in-Faces.is at c.requires
 
 none : (of : Walk) → OneOf (0 ∷ 2 ∷ []) (tag_of the_type of) → (p : List ℕ) → 0 ≡ tag_for of p
 none Edges k p = refl
 none Faces k p = absurd (miss (0 ∷ 2 ∷ []) 1 tt k)
 none Cells k p = refl
 
-returns : tie.Need-returns
+returns : tie.Need-returns-in-Faces
 unfolding across
-returns c = rw c.before.before.before.before.before.enum_told.given.1 c.across.ensures
+returns c = rw c.in-Faces.is c.across.ensures
 
 pub tag_of_spec : {M : Type 1} → statement M
 tag_of_spec =
@@ -38,4 +38,4 @@ tag_of_spec =
     (λ c. omega (arith, four c.before.before.before.before))
     (λ c κs. search rules)
     returns
-    (λ c. let s = c.before.before in none s.args.of c.match.keys2 s.args.corners.now))
+    (λ c. none c.args.of c.in-Edges.in-Edges-own.keys2 c.args.corners.now))

@@ -18,15 +18,13 @@ uneven : (f : List ℕ) → lesser (corner f 1) (corner f 3) ≤ lesser (corner 
 unfolding across
 uneven f h = rw (le-ltb _ _ h)
 
-returns : tie.Need-returns
+returns : tie.Need-returns-then-lesser
 returns c =
-    let b = c.before.before in
-    c.greater.ensures ∙ even b.before.before.args.t1 (rw (b.before.lesser.ensures, b.lesser2.ensures) at c.before.if1.true)
+    c.greater.ensures ∙ even c.args.t1 (rw (c.lesser.ensures, c.lesser-2.ensures) at c.if-lesser.true)
 
-returns-2 : tie.Need-returns-2
+returns-2 : tie.Need-returns-else-lesser
 returns-2 c =
-    let b = c.before.before in
-    c.greater2.ensures ∙ uneven b.before.before.args.t1 (rw (b.before.lesser.ensures, b.lesser2.ensures) at c.before.if1.false)
+    c.greater-else-lesser.ensures ∙ uneven c.args.t1 (rw (c.lesser.ensures, c.lesser-2.ensures) at c.if-lesser.false)
 
 pub across_spec : {M : Type 1} → statement M
 across_spec =

@@ -12,38 +12,35 @@ use Rattle.checks.proofs.Counting.{Counting, count_start, count_known, count_new
 use Rattle.checks.proofs.pairwise.count_distinct.Statement.{statement}
 use Rattle.checks.proofs.pairwise.count_distinct.Tie as tie
 
-abbrev invariant-loop : tie.invariant-loop
+abbrev invariant-loop : tie.invariant-loop-i
 invariant-loop d hexes quads segments n count₀ i₀ count i = Counting (map key_of (met_in d hexes quads segments)) i count
 
-abbrev decreases-loop : tie.decreases-loop
+abbrev decreases-loop : tie.decreases-loop-i
 decreases-loop d hexes quads segments n count₀ i₀ count i = n - i
 
 -- the parts
 abbrev ps : tie.Start invariant-loop decreases-loop → List (List ℕ)
 ps s = met_in s.args.d s.args.hexes.now s.args.quads.now s.args.segments.now
 
-listed : (l : tie.In-loop invariant-loop decreases-loop) → l.before.loop.i < length (ps l.before.before.before.before.before.before)
-listed l = rw (← l.before.before.part_count.ensures) l.loop-test.true
+listed : (l : tie.In-loop-i invariant-loop decreases-loop) → l.loop-i.i < length (ps l.before.before.before.before.before.before)
+listed l = rw (← l.part_count-n.ensures) l.loop-i-test.true
 
-keyed : (l : tie.In-loop invariant-loop decreases-loop) → l.before.loop.i < length (map key_of (ps l.before.before.before.before.before.before))
+keyed : (l : tie.In-loop-i invariant-loop decreases-loop) → l.loop-i.i < length (map key_of (ps l.before.before.before.before.before.before))
 keyed l = rw (length-map (ps l.before.before.before.before.before.before) key_of) (listed l)
 
-is-met-before-requires : tie.Need-is-met-before-requires invariant-loop decreases-loop
-is-met-before-requires c κs = let s = c.before.before.before.before.before.before in (s.requires.0, (s.requires.1, listed c))
+is-met-before-requires : tie.Need-is_met_before-requires invariant-loop decreases-loop
+is-met-before-requires c κs = (c.requires.0, (c.requires.1, listed c))
 
-loop-again : tie.Need-loop-preserved invariant-loop decreases-loop
+loop-again : tie.Need-loop-i-preserved invariant-loop decreases-loop
 loop-again c =
-    let b = c.before in
-    let l = b.before in
     ⊎_elim
-    (λ w. rw w.1 (count_new l.before.loop.invariant (keyed l) (sym b.is-met-before.ensures ∙ not-true b.is-met-before.result w.0.taken)))
-    (λ w. rw w.1 (count_known l.before.loop.invariant (keyed l) (sym b.is-met-before.ensures ∙ not-false b.is-met-before.result w.0.left)))
-    c.if1.branch
+    (λ w. rw w.1 (count_new c.loop-i.invariant (keyed c.before.before) (sym c.is_met_before.ensures ∙ not-true c.is_met_before.result w.0.taken)))
+    (λ w. rw w.1 (count_known c.loop-i.invariant (keyed c.before.before) (sym c.is_met_before.ensures ∙ not-false c.is_met_before.result w.0.left)))
+    c.if-not-is_met_before.branch
 
 returns : tie.Need-returns invariant-loop decreases-loop
 returns c =
-    let s = c.before.before.before.before.before.before in
-    count_end c.before.loop.invariant (rw (length-map (ps s) key_of, ← c.before.before.part_count.ensures) c.loop-test.false)
+    count_end c.loop-i.invariant (rw (length-map (ps c.before.before.before.before.before.before) key_of, ← c.part_count-n.ensures) c.loop-i-test.false)
 
 pub count_distinct_spec : {M : Type 1} → statement M
 count_distinct_spec =
@@ -51,7 +48,7 @@ count_distinct_spec =
     (tie.spec
     invariant-loop
     decreases-loop
-    (λ c κs. c.before.before.before.requires.0)
+    (λ c κs. c.requires.0)
     (λ c. count_start _)
     is-met-before-requires
     (λ c. omega arith)

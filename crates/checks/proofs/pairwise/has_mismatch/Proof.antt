@@ -12,37 +12,35 @@ use Rattle.checks.proofs.Scans.{Scanning, any_search, scan_start, scan_hit, scan
 use Rattle.checks.proofs.pairwise.has_mismatch.Statement.{statement}
 use Rattle.checks.proofs.pairwise.has_mismatch.Tie as tie
 
-abbrev invariant-loop : tie.invariant-loop
+abbrev invariant-loop : tie.invariant-loop-j
 invariant-loop hexes quads segments i n j₀ j =
     let faces = met_in 2 hexes quads segments in
     let test = mismatched (get_or faces i []) in
     Scanning (any test) (any test faces) faces j
 
-abbrev decreases-loop : tie.decreases-loop
+abbrev decreases-loop : tie.decreases-loop-j
 decreases-loop hexes quads segments i n j₀ j = n - j
 
 -- the faces
 abbrev fs : tie.Start invariant-loop decreases-loop → List (List ℕ)
 fs s = met_in 2 s.args.hexes.now s.args.quads.now s.args.segments.now
 
-listed : (l : tie.In-loop invariant-loop decreases-loop) → l.before.loop.j < length (fs l.before.before.before.before.before.before)
-listed l = rw (← l.before.before.part_count.ensures) l.loop-test.true
+listed : (l : tie.In-loop-j invariant-loop decreases-loop) → l.loop-j.j < length (fs l.before.before.before.before.before.before)
+listed l = rw (← l.part_count-n.ensures) l.loop-j-test.true
 
-is-mismatched-requires : tie.Need-is-mismatched-requires invariant-loop decreases-loop
-is-mismatched-requires c κs = let s = c.before.before.before.before.before.before in (s.requires.0, (s.requires.1, listed c))
+is-mismatched-requires : tie.Need-is_mismatched-requires invariant-loop decreases-loop
+is-mismatched-requires c κs = (c.requires.0, (c.requires.1, listed c))
 
-returns : tie.Need-returns invariant-loop decreases-loop
+returns : tie.Need-returns-then-is_mismatched invariant-loop decreases-loop
 returns c =
-    let l = c.before.before in
-    scan_hit (any_search _) [] l.before.loop.invariant (listed l) (sym c.before.is-mismatched.ensures ∙ c.if1.true)
+    scan_hit (any_search _) [] c.loop-j.invariant (listed c.before.before) (sym c.is_mismatched.ensures ∙ c.if-is_mismatched.true)
 
-loop-again : tie.Need-loop-preserved invariant-loop decreases-loop
+loop-again : tie.Need-loop-j-preserved invariant-loop decreases-loop
 loop-again c =
-    let l = c.before.before in
-    scan_miss (any_search _) [] l.before.loop.invariant (listed l) (sym c.before.is-mismatched.ensures ∙ c.if1.false)
+    scan_miss (any_search _) [] c.loop-j.invariant (listed c.before.before) (sym c.is_mismatched.ensures ∙ c.if-is_mismatched.false)
 
-returns-2 : tie.Need-returns-2 invariant-loop decreases-loop
-returns-2 c = scan_end (any_search _) c.before.loop.invariant (rw (← c.before.before.part_count.ensures) c.loop-test.false)
+returns-2 : tie.Need-returns invariant-loop decreases-loop
+returns-2 c = scan_end (any_search _) c.loop-j.invariant (rw (← c.part_count-n.ensures) c.loop-j-test.false)
 
 pub has_mismatch_spec : {M : Type 1} → statement M
 has_mismatch_spec =

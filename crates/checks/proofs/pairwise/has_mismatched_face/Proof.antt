@@ -13,39 +13,37 @@ use Rattle.checks.proofs.Scans.{Scanning, any_search, scan_start, scan_hit, scan
 use Rattle.checks.proofs.pairwise.has_mismatched_face.Statement.{statement}
 use Rattle.checks.proofs.pairwise.has_mismatched_face.Tie as tie
 
-abbrev invariant-loop : tie.invariant-loop
+abbrev invariant-loop : tie.invariant-loop-i
 invariant-loop hexes quads segments n i₀ i =
     let faces = met_in 2 hexes quads segments in
     let test : List ℕ → Bool = λ f. any (mismatched f) faces in
     Scanning (any test) (any test faces) faces i
 
-abbrev decreases-loop : tie.decreases-loop
+abbrev decreases-loop : tie.decreases-loop-i
 decreases-loop hexes quads segments n i₀ i = n - i
 
 -- the faces
 abbrev fs : tie.Start invariant-loop decreases-loop → List (List ℕ)
 fs s = met_in 2 s.args.hexes.now s.args.quads.now s.args.segments.now
 
-listed : (l : tie.In-loop invariant-loop decreases-loop) → l.before.loop.i < length (fs l.before.before.before.before.before.before)
-listed l = rw (← l.before.before.part_count.ensures) l.loop-test.true
+listed : (l : tie.In-loop-i invariant-loop decreases-loop) → l.loop-i.i < length (fs l.before.before.before.before.before.before)
+listed l = rw (← l.part_count-n.ensures) l.loop-i-test.true
 
-has-mismatch-requires : tie.Need-has-mismatch-requires invariant-loop decreases-loop
-has-mismatch-requires c κs = let s = c.before.before.before.before.before.before in (s.requires, listed c)
+has-mismatch-requires : tie.Need-has_mismatch-requires invariant-loop decreases-loop
+has-mismatch-requires c κs = (c.requires, listed c)
 
-returns : tie.Need-returns invariant-loop decreases-loop
+returns : tie.Need-returns-then-has_mismatch invariant-loop decreases-loop
 unfolding mismatched_face
 returns c =
-    let l = c.before.before in
-    scan_hit (any_search _) [] l.before.loop.invariant (listed l) (sym c.before.has-mismatch.ensures ∙ c.if1.true)
+    scan_hit (any_search _) [] c.loop-i.invariant (listed c.before.before) (sym c.has_mismatch.ensures ∙ c.if-has_mismatch.true)
 
-loop-again : tie.Need-loop-preserved invariant-loop decreases-loop
+loop-again : tie.Need-loop-i-preserved invariant-loop decreases-loop
 loop-again c =
-    let l = c.before.before in
-    scan_miss (any_search _) [] l.before.loop.invariant (listed l) (sym c.before.has-mismatch.ensures ∙ c.if1.false)
+    scan_miss (any_search _) [] c.loop-i.invariant (listed c.before.before) (sym c.has_mismatch.ensures ∙ c.if-has_mismatch.false)
 
-returns-2 : tie.Need-returns-2 invariant-loop decreases-loop
+returns-2 : tie.Need-returns invariant-loop decreases-loop
 unfolding mismatched_face
-returns-2 c = scan_end (any_search _) c.before.loop.invariant (rw (← c.before.before.part_count.ensures) c.loop-test.false)
+returns-2 c = scan_end (any_search _) c.loop-i.invariant (rw (← c.part_count-n.ensures) c.loop-i-test.false)
 
 pub has_mismatched_face_spec : {M : Type 1} → statement M
 has_mismatched_face_spec =

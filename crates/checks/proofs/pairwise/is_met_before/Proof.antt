@@ -12,13 +12,13 @@ use Rattle.checks.proofs.Scans.{Scanning, any_search, scan_start, scan_hit, scan
 use Rattle.checks.proofs.pairwise.is_met_before.Statement.{statement}
 use Rattle.checks.proofs.pairwise.is_met_before.Tie as tie
 
-abbrev invariant-loop : tie.invariant-loop
+abbrev invariant-loop : tie.invariant-loop-j
 invariant-loop d hexes quads segments i j₀ j =
     let keys = map key_of (met_in d hexes quads segments) in
     let test = any (same (get_or keys i [])) in
     Scanning test (test (take i keys)) (take i keys) j
 
-abbrev decreases-loop : tie.decreases-loop
+abbrev decreases-loop : tie.decreases-loop-j
 decreases-loop d hexes quads segments i j₀ j = i - j
 
 -- the parts
@@ -29,37 +29,30 @@ ps s = met_in s.args.d s.args.hexes.now s.args.quads.now s.args.segments.now
 before : (s : tie.Start invariant-loop decreases-loop) → length (take s.args.i (map key_of (ps s))) ≡ s.args.i
 before s = length-take-le s.args.i (map key_of (ps s)) (rw (length-map (ps s) key_of) (omega (arith, s.requires.1.1)))
 
-tested : (c : tie.After-same-parts invariant-loop decreases-loop) →
-    let l = c.before in
-    let s = l.before.before.before.before.before in
-    c.same_parts.result ≡ same (get_or (map key_of (ps s)) s.args.i []) (get_or (take s.args.i (map key_of (ps s))) l.before.loop.j [])
+tested : (c : tie.After-same_parts invariant-loop decreases-loop) →
+    c.same_parts.result ≡ same (get_or (map key_of (ps c.before.before.before.before.before.before)) c.args.i []) (get_or (take c.args.i (map key_of (ps c.before.before.before.before.before.before))) c.loop-j.j [])
 tested c =
-    let l = c.before in
-    let s = l.before.before.before.before.before in
     rw (
-      get_or-take s.args.i (map key_of (ps s)) l.before.loop.j [] l.loop-test.true,
-      get_or_map key_of (ps s) s.args.i [] [] s.requires.1.1,
-      get_or_map key_of (ps s) l.before.loop.j [] [] (omega (arith, l.loop-test.true, s.requires.1.1)),
+      get_or-take c.args.i (map key_of (ps c.before.before.before.before.before.before)) c.loop-j.j [] c.loop-j-test.true,
+      get_or_map key_of (ps c.before.before.before.before.before.before) c.args.i [] [] c.requires.1.1,
+      get_or_map key_of (ps c.before.before.before.before.before.before) c.loop-j.j [] [] (omega (arith, c.loop-j-test.true, c.requires.1.1)),
     )
     c.same_parts.ensures
 
-same-parts-requires : tie.Need-same-parts-requires invariant-loop decreases-loop
+same-parts-requires : tie.Need-same_parts-requires invariant-loop decreases-loop
 same-parts-requires c κs =
-    let s = c.before.before.before.before.before in
-    (s.requires.0, (s.requires.1.0, (s.requires.1.1, omega (arith, c.loop-test.true, s.requires.1.1))))
+    (c.requires.0, (c.requires.1.0, (c.requires.1.1, omega (arith, c.loop-j-test.true, c.requires.1.1))))
 
-returns : tie.Need-returns invariant-loop decreases-loop
+returns : tie.Need-returns-then-same_parts invariant-loop decreases-loop
 returns c =
-    let l = c.before.before in
-    scan_hit (any_search _) [] l.before.loop.invariant (rw (before l.before.before.before.before.before) l.loop-test.true) (sym (tested c.before) ∙ c.if1.true)
+    scan_hit (any_search _) [] c.loop-j.invariant (rw (before c.before.before.before.before.before.before.before) c.loop-j-test.true) (sym (tested c.before) ∙ c.if-same_parts.true)
 
-loop-again : tie.Need-loop-preserved invariant-loop decreases-loop
+loop-again : tie.Need-loop-j-preserved invariant-loop decreases-loop
 loop-again c =
-    let l = c.before.before in
-    scan_miss (any_search _) [] l.before.loop.invariant (rw (before l.before.before.before.before.before) l.loop-test.true) (sym (tested c.before) ∙ c.if1.false)
+    scan_miss (any_search _) [] c.loop-j.invariant (rw (before c.before.before.before.before.before.before.before) c.loop-j-test.true) (sym (tested c.before) ∙ c.if-same_parts.false)
 
-returns-2 : tie.Need-returns-2 invariant-loop decreases-loop
-returns-2 c = scan_end (any_search _) c.before.loop.invariant (rw (before c.before.before.before.before.before) c.loop-test.false)
+returns-2 : tie.Need-returns invariant-loop decreases-loop
+returns-2 c = scan_end (any_search _) c.loop-j.invariant (rw (before c.before.before.before.before.before) c.loop-j-test.false)
 
 pub is_met_before_spec : {M : Type 1} → statement M
 is_met_before_spec =

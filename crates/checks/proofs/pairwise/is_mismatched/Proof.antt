@@ -7,30 +7,24 @@ use Rattle.checks.proofs.Mismatch.{across_take, mismatched_at}
 use Rattle.checks.proofs.pairwise.is_mismatched.Statement.{statement}
 use Rattle.checks.proofs.pairwise.is_mismatched.Tie as tie
 
-returns : tie.Need-returns
+returns : tie.Need-returns-then-not-same_parts
 returns c =
-    let b = c.before in
-    let s = b.before.before.before.before in
-    let a = s.args in
+    let a = c.args in
     rw (
-      mismatched_at a.hexes.now a.quads.now a.segments.now s.requires.0 a.i a.j s.requires.1.0 s.requires.1.1,
-      ← b.same_parts.ensures,
-      not-true b.same_parts.result c.if1.true,
+      mismatched_at a.hexes.now a.quads.now a.segments.now c.requires.0 a.i a.j c.requires.1.0 c.requires.1.1,
+      ← c.same_parts.ensures,
+      not-true c.same_parts.result c.if-not-same_parts.true,
     )
 
-returns-2 : tie.Need-returns-2
+returns-2 : tie.Need-returns
 returns-2 c =
-    let g = c.before.before in
-    let f = g.before in
-    let b = f.before.before in
-    let s = b.before.before.before.before in
-    let a = s.args in
-    let first = c.before.across.ensures ∙ sym (across_take f.part_at.result) ∙ ap across f.part_at.ensures in
-    let second = c.across2.ensures ∙ sym (across_take g.part-at2.result) ∙ ap across g.part-at2.ensures in
+    let a = c.args in
+    let first = c.across.ensures ∙ sym (across_take c.part_at-f.result) ∙ ap across c.part_at-f.ensures in
+    let second = c.across-2.ensures ∙ sym (across_take c.part_at-g.result) ∙ ap across c.part_at-g.ensures in
     rw (
-      mismatched_at a.hexes.now a.quads.now a.segments.now s.requires.0 a.i a.j s.requires.1.0 s.requires.1.1,
-      ← b.same_parts.ensures,
-      not-false b.same_parts.result f.before.if1.false,
+      mismatched_at a.hexes.now a.quads.now a.segments.now c.requires.0 a.i a.j c.requires.1.0 c.requires.1.1,
+      ← c.same_parts.ensures,
+      not-false c.same_parts.result c.if-not-same_parts.false,
       first,
       second,
     ) refl

@@ -29,21 +29,19 @@ plain : (s : tie.Start) (i : ℕ) → i < length (cut s.args.k s.args.table.now)
     → repeats eqb (get_or (cut s.args.k s.args.table.now) i []) ≡ false
 plain s i h = none_at (repeats eqb) (cut s.args.k s.args.table.now) [] s.requires.0 i h
 
-same-corners-requires : tie.Need-same-corners-requires
+same-corners-requires : tie.Need-same_corners-requires
 same-corners-requires c κs =
-    let s = c.before.before.before in
-    let a = s.args in
-    rw (entry_part a.k a.c a.table.now s.requires.1.0, entry_part a.k a.d a.table.now s.requires.1.1)
-    (sized s a.c s.requires.1.0 ∙ sym (sized s a.d s.requires.1.1), (plain s a.c s.requires.1.0, plain s a.d s.requires.1.1))
+    let a = c.args in
+    rw (entry_part a.k a.c a.table.now c.requires.1.0, entry_part a.k a.d a.table.now c.requires.1.1)
+    (sized c.before.before.before a.c c.requires.1.0 ∙ sym (sized c.before.before.before a.d c.requires.1.1), (plain c.before.before.before a.c c.requires.1.0, plain c.before.before.before a.d c.requires.1.1))
 
 returns : tie.Need-returns
 returns c =
-    let s = c.before.before.before.before in
-    let a = s.args in
+    let a = c.args in
     rw (
-      entry_part a.k a.c a.table.now s.requires.1.0,
-      entry_part a.k a.d a.table.now s.requires.1.1,
-    ) at c.same-corners.ensures
+      entry_part a.k a.c a.table.now c.requires.1.0,
+      entry_part a.k a.d a.table.now c.requires.1.1,
+    ) at c.same_corners.ensures
 
 pub same_cells_spec : {M : Type 1} → statement M
 same_cells_spec =

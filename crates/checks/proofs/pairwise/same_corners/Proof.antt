@@ -10,10 +10,10 @@ use Rattle.checks.proofs.CornerSets.{strange, same_by_corners}
 use Rattle.checks.proofs.pairwise.same_corners.Statement.{statement}
 use Rattle.checks.proofs.pairwise.same_corners.Tie as tie
 
-abbrev invariant-loop : tie.invariant-loop
+abbrev invariant-loop : tie.invariant-loop-i
 invariant-loop a b i₀ i = Scanning (any (strange b)) (any (strange b) a) a i
 
-abbrev decreases-loop : tie.decreases-loop
+abbrev decreases-loop : tie.decreases-loop-i
 decreases-loop a b i₀ i = length a - i
 
 -- what the loop finds decides
@@ -21,21 +21,19 @@ decided : (s : tie.Start invariant-loop decreases-loop)
     → same (key_of s.args.a.now) (key_of s.args.b.now) ≡ not (any (strange s.args.b.now) s.args.a.now)
 decided s = same_by_corners s.args.a.now s.args.b.now s.requires.0 s.requires.1.0 s.requires.1.1
 
-returns : tie.Need-returns invariant-loop decreases-loop
+returns : tie.Need-returns-then-not-has_number invariant-loop decreases-loop
 returns c =
-    let l = c.before.before.before in
-    let found = scan_hit (any_search _) 0 l.before.loop.invariant l.loop-test.true (ap not (sym c.before.has-number.ensures)
-    ∙ c.if1.true) in
-    sym (decided l.before.before.before.before ∙ ap not (sym found))
+    let found = scan_hit (any_search _) 0 c.loop-i.invariant c.loop-i-test.true (ap not (sym c.has_number.ensures)
+    ∙ c.if-not-has_number.true) in
+    sym (decided c.before.before.before.before.before.before.before ∙ ap not (sym found))
 
-loop-again : tie.Need-loop-preserved invariant-loop decreases-loop
+loop-again : tie.Need-loop-i-preserved invariant-loop decreases-loop
 loop-again c =
-    let l = c.before.before.before in
-    scan_miss (any_search _) 0 l.before.loop.invariant l.loop-test.true (ap not (sym c.before.has-number.ensures) ∙ c.if1.false)
+    scan_miss (any_search _) 0 c.loop-i.invariant c.loop-i-test.true (ap not (sym c.has_number.ensures) ∙ c.if-not-has_number.false)
 
-returns-2 : tie.Need-returns-2 invariant-loop decreases-loop
+returns-2 : tie.Need-returns invariant-loop decreases-loop
 returns-2 c =
-    let none = scan_end (any_search _) c.before.loop.invariant c.loop-test.false in
+    let none = scan_end (any_search _) c.loop-i.invariant c.loop-i-test.false in
     sym (decided c.before.before.before.before ∙ ap not (sym none))
 
 pub same_corners_spec : {M : Type 1} → statement M

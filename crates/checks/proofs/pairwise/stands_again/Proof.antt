@@ -12,55 +12,52 @@ use Rattle.checks.proofs.Scans.{Scanning, any_search, scan_from, scan_hit, scan_
 use Rattle.checks.proofs.pairwise.stands_again.Statement.{statement}
 use Rattle.checks.proofs.pairwise.stands_again.Tie as tie
 
-abbrev invariant-loop : tie.invariant-loop
+abbrev invariant-loop : tie.invariant-loop-d
 invariant-loop k table c n d₀ d =
     let keys = map key_of (cut k table) in
     let test = any (same (key_of (get_or (cut k table) c []))) in
     Scanning test (test (drop (c + 1) keys)) keys d
 
-abbrev decreases-loop : tie.decreases-loop
+abbrev decreases-loop : tie.decreases-loop-d
 decreases-loop k table c n d₀ d = n - d
 
 -- cell d is one of the table's
-listed : (l : tie.In-loop invariant-loop decreases-loop) → let a = l.before.before.before.args in l.before.loop.d < length (cut a.k a.table.now)
-listed l = let a = l.before.before.before.args in rw (length_cut a.k a.table.now) l.loop-test.true
+listed : (l : tie.In-loop-d invariant-loop decreases-loop) → let a = l.args in l.loop-d.d < length (cut a.k a.table.now)
+listed l = let a = l.args in rw (length_cut a.k a.table.now) l.loop-d-test.true
 
 -- and so is its key
-keyed : (l : tie.In-loop invariant-loop decreases-loop)
-    → let a = l.before.before.before.args in l.before.loop.d < length (map key_of (cut a.k a.table.now))
-keyed l = let a = l.before.before.before.args in rw (length-map (cut a.k a.table.now) key_of) (listed l)
+keyed : (l : tie.In-loop-d invariant-loop decreases-loop)
+    → let a = l.args in l.loop-d.d < length (map key_of (cut a.k a.table.now))
+keyed l = let a = l.args in rw (length-map (cut a.k a.table.now) key_of) (listed l)
 
-tested : (c : tie.After-same-cells invariant-loop decreases-loop) →
-    let l = c.before in
-    let a = l.before.before.before.args in
-    c.same-cells.result ≡ same (key_of (get_or (cut a.k a.table.now) a.c [])) (get_or (map key_of (cut a.k a.table.now)) l.before.loop.d [])
+tested : (c : tie.After-same_cells invariant-loop decreases-loop) →
+    let a = c.args in
+    c.same_cells.result ≡ same (key_of (get_or (cut a.k a.table.now) a.c [])) (get_or (map key_of (cut a.k a.table.now)) c.loop-d.d [])
 tested c =
-    let l = c.before in
-    let a = l.before.before.before.args in
-    rw (get_or_map key_of (cut a.k a.table.now) l.before.loop.d [] [] (listed l)) c.same-cells.ensures
+    let a = c.args in
+    rw (get_or_map key_of (cut a.k a.table.now) c.loop-d.d [] [] (listed c.before)) c.same_cells.ensures
 
-loop-holds : tie.Need-loop-init invariant-loop decreases-loop
+loop-holds : tie.Need-loop-d-init invariant-loop decreases-loop
 loop-holds c =
-    let s = c.before in
-    let a = s.args in
-    scan_from _ (map key_of (cut a.k a.table.now)) (a.c + 1) (rw (length-map (cut a.k a.table.now) key_of) (omega (arith, s.requires.1.1)))
+    let a = c.args in
+    scan_from _ (map key_of (cut a.k a.table.now)) (a.c + 1) (rw (length-map (cut a.k a.table.now) key_of) (omega (arith, c.requires.1.1)))
 
-same-cells-requires : tie.Need-same-cells-requires invariant-loop decreases-loop
-same-cells-requires c κs = let s = c.before.before.before in (s.requires.1.0, (s.requires.1.1, listed c))
+same-cells-requires : tie.Need-same_cells-requires invariant-loop decreases-loop
+same-cells-requires c κs = (c.requires.1.0, (c.requires.1.1, listed c))
 
-returns : tie.Need-returns invariant-loop decreases-loop
-returns c = let l = c.before.before in scan_hit (any_search _) [] l.before.loop.invariant (keyed l) (sym (tested c.before) ∙ c.if1.true)
+returns : tie.Need-returns-then-same_cells invariant-loop decreases-loop
+returns c = scan_hit (any_search _) [] c.loop-d.invariant (keyed c.before.before) (sym (tested c.before) ∙ c.if-same_cells.true)
 
-loop-again : tie.Need-loop-preserved invariant-loop decreases-loop
-loop-again c = let l = c.before.before in scan_miss (any_search _) [] l.before.loop.invariant (keyed l) (sym (tested c.before) ∙ c.if1.false)
+loop-again : tie.Need-loop-d-preserved invariant-loop decreases-loop
+loop-again c = scan_miss (any_search _) [] c.loop-d.invariant (keyed c.before.before) (sym (tested c.before) ∙ c.if-same_cells.false)
 
-returns-2 : tie.Need-returns-2 invariant-loop decreases-loop
+returns-2 : tie.Need-returns invariant-loop decreases-loop
 returns-2 c =
-    let a = c.before.before.before.args in
-    scan_end (any_search _) c.before.loop.invariant (rw (
+    let a = c.args in
+    scan_end (any_search _) c.loop-d.invariant (rw (
       length-map (cut a.k a.table.now) key_of,
       length_cut a.k a.table.now,
-    ) c.loop-test.false)
+    ) c.loop-d-test.false)
 
 pub stands_again_spec : {M : Type 1} → statement M
 stands_again_spec =
@@ -68,17 +65,17 @@ stands_again_spec =
     (tie.spec
     invariant-loop
     decreases-loop
-    (λ c. c.before.requires.0)
-    (λ c. let s = c.before in omega (
+    (λ c. c.requires.0)
+    (λ c. omega (
       arith,
-      s.requires.1.1,
-      length_cut s.args.k s.args.table.now,
-      div-le_self (length s.args.table.now) s.args.k,
+      c.requires.1.1,
+      length_cut c.args.k c.args.table.now,
+      div-le_self (length c.args.table.now) c.args.k,
     ))
     loop-holds
     same-cells-requires
     returns
-    (λ c. let s = c.before.before.before.before.before in omega (arith, div-le_self (length s.args.table.now) s.args.k))
+    (λ c. omega (arith, div-le_self (length c.args.table.now) c.args.k))
     (λ c. omega arith)
     loop-again
     returns-2)

@@ -7,28 +7,28 @@ use Rattle.checks.proofs.parts.hex_place.Statement.{statement}
 use Rattle.checks.proofs.parts.hex_place.Tie as tie
 
 -- where it is no edge it is a face
-face : (c : tie.Else1) → c.before.args.d ≡ 2
-face c = omega (arith, c.before.requires.0.0, c.before.requires.0.1, c.if1.false)
+face : (c : tie.Else-d-eq1) → c.args.d ≡ 2
+face c = omega (arith, c.requires.0.0, c.requires.0.1, c.if-d-eq1.false)
 
-hex-edge-requires : tie.Need-hex-edge-requires
+hex-edge-requires : tie.Need-hex_edge-requires
 unfolding places by_dimension
 hex-edge-requires c κs =
-    let p : c.before.args.p < 12 = rw c.if1.true at c.before.requires.1.0 in
-    omega (arith, c.if1.true, c.before.requires.1.1)
+    let p : c.args.p < 12 = rw c.if-d-eq1.true at c.requires.1.0 in
+    omega (arith, c.if-d-eq1.true, c.requires.1.1)
 
-hex-face-requires : tie.Need-hex-face-requires
+hex-face-requires : tie.Need-hex_face-requires
 unfolding places by_dimension
 hex-face-requires c κs =
-    let p : c.before.args.p < 6 = rw (face c) at c.before.requires.1.0 in
-    omega (arith, face c, c.before.requires.1.1)
+    let p : c.args.p < 6 = rw (face c) at c.requires.1.0 in
+    omega (arith, face c, c.requires.1.1)
 
-returns : tie.Need-returns
+returns : tie.Need-returns-then-d-eq1
 unfolding places by_dimension
-returns c = rw c.before.if1.true c.hex-edge.ensures
+returns c = rw c.if-d-eq1.true c.hex_edge.ensures
 
-returns-2 : tie.Need-returns-2
+returns-2 : tie.Need-returns-else-d-eq1
 unfolding places by_dimension
-returns-2 c = rw (face c.before) c.hex-face.ensures
+returns-2 c = rw (face c.before) c.hex_face.ensures
 
 pub hex_place_spec : {M : Type 1} → statement M
 hex_place_spec = tie.close (tie.spec hex-edge-requires hex-face-requires returns returns-2)

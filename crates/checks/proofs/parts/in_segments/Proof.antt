@@ -6,17 +6,17 @@ use Rattle.checks.proofs.WalkLaws.{length_parts}
 use Rattle.checks.proofs.parts.in_segments.Statement.{statement}
 use Rattle.checks.proofs.parts.in_segments.Tie as tie
 
-returns : tie.Need-returns
+returns : tie.Need-returns-then-d-eq1
 unfolding places by_dimension
 returns c =
-    let a = c.before.args in
-    rw (length_parts segment a.d a.segments.now, c.if1.true) (omega arith)
+    let a = c.args in
+    rw (length_parts segment a.d a.segments.now, c.if-d-eq1.true) (omega arith)
 
-returns-2 : tie.Need-returns-2
+returns-2 : tie.Need-returns-else-d-eq1
 unfolding places by_dimension
 returns-2 c =
-    let a = c.before.args in
-    let face : a.d ≡ 2 = omega (arith, c.before.requires.0, c.before.requires.1, c.if1.false) in
+    let a = c.args in
+    let face : a.d ≡ 2 = omega (arith, c.requires.0, c.requires.1, c.if-d-eq1.false) in
     rw (length_parts segment a.d a.segments.now, face) (omega arith)
 
 pub in_segments_spec : {M : Type 1} → statement M

@@ -11,10 +11,10 @@ use Rattle.checks.proofs.WalkLaws.{length_part}
 use Rattle.checks.proofs.parts.part_at.Statement.{statement}
 use Rattle.checks.proofs.parts.part_at.Tie as tie
 
-abbrev invariant-loop : tie.invariant-loop
+abbrev invariant-loop : tie.invariant-loop-j
 invariant-loop d hexes quads segments i part₀ j₀ part j = (j ≤ 2 * d) × Copied (get_or (met_in d hexes quads segments) i []) part j
 
-abbrev decreases-loop : tie.decreases-loop
+abbrev decreases-loop : tie.decreases-loop-j
 decreases-loop d hexes quads segments i part₀ j₀ part j = 2 * d - j
 
 -- the part has 2 d corners
@@ -25,24 +25,20 @@ size s =
     (get_or (met_in a.d a.hexes.now a.quads.now a.segments.now) a.i [])
     (get_or_in (met_in a.d a.hexes.now a.quads.now a.segments.now) a.i [] s.requires.1)
 
-loop-holds : tie.Need-loop-init invariant-loop decreases-loop
-loop-holds c = let s = c.before.before.before in (omega arith, copy_start _ _ (omega (arith, size s, s.requires.0.1)))
+loop-holds : tie.Need-loop-j-init invariant-loop decreases-loop
+loop-holds c = (omega arith, copy_start _ _ (omega (arith, size c.before.before.before, c.requires.0.1)))
 
-part-corner-requires : tie.Need-part-corner-requires invariant-loop decreases-loop
-part-corner-requires c κs = let s = c.before.before.before.before.before in (s.requires.0, (s.requires.1, c.loop-test.true))
+part-corner-requires : tie.Need-part_corner-requires invariant-loop decreases-loop
+part-corner-requires c κs = (c.requires.0, (c.requires.1, c.loop-j-test.true))
 
-loop-again : tie.Need-loop-preserved invariant-loop decreases-loop
+loop-again : tie.Need-loop-j-preserved invariant-loop decreases-loop
 loop-again c =
-    let l = c.before in
-    let s = l.before.before.before.before.before in
-    (omega arith, copy_turn c.part-corner.result l.before.loop.invariant.1 (omega (arith, size s, l.loop-test.true)) c.part-corner.ensures)
+    (omega arith, copy_turn c.part_corner.result c.loop-j.invariant.1 (omega (arith, size c.before.before.before.before.before.before, c.loop-j-test.true)) c.part_corner.ensures)
 
 returns : tie.Need-returns invariant-loop decreases-loop
 returns c =
-    let l = c.before in
-    let s = l.before.before.before.before in
-    let e : l.loop.j ≡ 2 * s.args.d = omega (arith, l.loop.invariant.0, c.loop-test.false) in
-    rw (← e) (copy_end l.loop.invariant.1 (omega (arith, size s)))
+    let e : c.loop-j.j ≡ 2 * c.args.d = omega (arith, c.loop-j.invariant.0, c.loop-j-test.false) in
+    rw (← e) (copy_end c.loop-j.invariant.1 (omega (arith, size c.before.before.before.before.before)))
 
 pub part_at_spec : {M : Type 1} → statement M
 part_at_spec =
@@ -51,11 +47,11 @@ part_at_spec =
     invariant-loop
     decreases-loop
     loop-holds
-    (λ c. omega (arith, c.before.before.before.before.requires.0.1))
+    (λ c. omega (arith, c.requires.0.1))
     part-corner-requires
-    (λ c. omega (arith, c.before.before.before.before.before.before.requires.0.1))
-    (λ c. omega (arith, c.before.before.before.before.before.before.requires.0.1))
-    (λ c. omega (arith, c.before.before.before.before.before.before.requires.0.1))
+    (λ c. omega (arith, c.requires.0.1))
+    (λ c. omega (arith, c.requires.0.1))
+    (λ c. omega (arith, c.requires.0.1))
     (λ c. omega arith)
     loop-again
     returns)

@@ -11,63 +11,54 @@ use Rattle.checks.proofs.WalkLaws.{length_met, met_hex, met_quad, met_segment}
 use Rattle.checks.proofs.parts.part_corner.Statement.{statement}
 use Rattle.checks.proofs.parts.part_corner.Tie as tie
 
-returns : tie.Need-returns
+returns : tie.Need-returns-then-i-h
 returns c =
-    let b = c.before in
-    let s = b.before.before.before.before.before in
-    let a = s.args in
-    let first = met_hex a.d s.requires.0.0 a.hexes.now a.quads.now a.segments.now a.i (omega (
+    let a = c.args in
+    let first = met_hex a.d c.requires.0.0 a.hexes.now a.quads.now a.segments.now a.i (omega (
       arith,
-      b.if1.true,
-      b.before.in-hexes.ensures,
+      c.if-i-h.true,
+      c.in_hexes-h.ensures,
     )) in
-    c.hex-corner.ensures ∙ ap (λ (p : List ℕ). get_or p a.j 0) (sym first)
+    c.hex_corner.ensures ∙ ap (λ (p : List ℕ). get_or p a.j 0) (sym first)
 
-returns-2 : tie.Need-returns-2
+returns-2 : tie.Need-returns-then-rest-q
 returns-2 c =
-    let b = c.before in
-    let h = b.before.before.before in
-    let s = h.before.before.before.before in
-    let a = s.args in
-    let rest = a.i - h.in-hexes.result in
-    let e : length (parts_of hex a.d a.hexes.now) + rest ≡ a.i = omega (arith, b.before.before.if1.false, h.in-hexes.ensures) in
-    let second = met_quad a.d s.requires.0.0 a.hexes.now a.quads.now a.segments.now rest (omega (
+    let a = c.args in
+    let rest = a.i - c.in_hexes-h.result in
+    let e : length (parts_of hex a.d a.hexes.now) + rest ≡ a.i = omega (arith, c.if-i-h.false, c.in_hexes-h.ensures) in
+    let second = met_quad a.d c.requires.0.0 a.hexes.now a.quads.now a.segments.now rest (omega (
       arith,
-      b.if2.true,
-      b.before.in-quads.ensures,
+      c.if-rest-q.true,
+      c.in_quads-q.ensures,
     )) in
-    c.quad-corner.ensures ∙ ap (λ (p : List ℕ). get_or p a.j 0) (sym second
+    c.quad_corner.ensures ∙ ap (λ (p : List ℕ). get_or p a.j 0) (sym second
     ∙ ap (λ (n : ℕ). get_or (met_in a.d a.hexes.now a.quads.now a.segments.now) n []) e)
 
 -- what is left when the hexes and the quads are passed
-last : (c : tie.Else2) →
-    let a = c.before.before.before.before.before.before.before.args in
-    let rest = a.i - c.before.before.before.in-hexes.result - c.before.in-quads.result in
+last : (c : tie.Else-rest-q) →
+    let a = c.args in
+    let rest = a.i - c.in_hexes-h.result - c.in_quads-q.result in
     length (parts_of hex a.d a.hexes.now) + (length (parts_of quad a.d a.quads.now) + rest) ≡ a.i
 last c =
-    let h = c.before.before.before in
-    omega (arith, c.if2.false, c.before.in-quads.ensures, c.before.before.if1.false, h.in-hexes.ensures)
+    omega (arith, c.if-rest-q.false, c.in_quads-q.ensures, c.if-i-h.false, c.in_hexes-h.ensures)
 
-segment-corner-requires : tie.Need-segment-corner-requires
+segment-corner-requires : tie.Need-segment_corner-requires
 segment-corner-requires c κs =
-    let s = c.before.before.before.before.before.before.before in
-    let a = s.args in (
-      s.requires.0,
+    let a = c.args in (
+      c.requires.0,
       (
-        omega (arith, last c, s.requires.1.0, length_met a.d s.requires.0.0 a.hexes.now a.quads.now a.segments.now),
-        s.requires.1.1,
+        omega (arith, last c, c.requires.1.0, length_met a.d c.requires.0.0 a.hexes.now a.quads.now a.segments.now),
+        c.requires.1.1,
       ),
     )
 
-returns-3 : tie.Need-returns-3
+returns-3 : tie.Need-returns
 returns-3 c =
-    let b = c.before in
-    let s = b.before.before.before.before.before.before.before in
-    let a = s.args in
-    let rest = a.i - b.before.before.before.in-hexes.result - b.before.in-quads.result in
-    let third = met_segment a.d s.requires.0.0 a.hexes.now a.quads.now a.segments.now rest in
-    c.segment-corner.ensures ∙ ap (λ (p : List ℕ). get_or p a.j 0) (sym third
-    ∙ ap (λ (n : ℕ). get_or (met_in a.d a.hexes.now a.quads.now a.segments.now) n []) (last b))
+    let a = c.args in
+    let rest = a.i - c.in_hexes-h.result - c.in_quads-q.result in
+    let third = met_segment a.d c.requires.0.0 a.hexes.now a.quads.now a.segments.now rest in
+    c.segment_corner.ensures ∙ ap (λ (p : List ℕ). get_or p a.j 0) (sym third
+    ∙ ap (λ (n : ℕ). get_or (met_in a.d a.hexes.now a.quads.now a.segments.now) n []) (last c.before))
 
 pub part_corner_spec : {M : Type 1} → statement M
 part_corner_spec =

@@ -11,19 +11,17 @@ use Rattle.checks.proofs.parts.part_count.Tie as tie
 
 returns : tie.Need-returns
 returns c =
-    let s = c.before.before.before.before.before.before in
-    let a = s.args in
+    let a = c.args in
     rw (
-      c.before.before.in-hexes.ensures,
-      c.before.in-quads.ensures,
-      c.in-segments.ensures,
-    ) (sym (length_met a.d s.requires.0 a.hexes.now a.quads.now a.segments.now))
+      c.in_hexes.ensures,
+      c.in_quads.ensures,
+      c.in_segments.ensures,
+    ) (sym (length_met a.d c.requires.0 a.hexes.now a.quads.now a.segments.now))
 
-fits : (c : tie.After-in-segments) → let a = c.before.before.before.before.before.before.args in length (met_in a.d a.hexes.now a.quads.now a.segments.now) < 2 ^ 64
+fits : (c : tie.After-in_segments) → let a = c.args in length (met_in a.d a.hexes.now a.quads.now a.segments.now) < 2 ^ 64
 fits c =
-    let s = c.before.before.before.before.before.before in
-    let a = s.args in
-    met_fits a.d s.requires.0 a.hexes.now a.quads.now a.segments.now s.requires.1 s.well-formed.1.0.1 s.well-formed.1.1.0.1 s.well-formed.1.1.1.0.1
+    let a = c.args in
+    met_fits a.d c.requires.0 a.hexes.now a.quads.now a.segments.now c.requires.1 c.before.before.before.before.before.before.well-formed.1.0.1 c.before.before.before.before.before.before.well-formed.1.1.0.1 c.before.before.before.before.before.before.well-formed.1.1.1.0.1
 
 pub part_count_spec : {M : Type 1} → statement M
 part_count_spec =

@@ -6,14 +6,14 @@ use Rattle.rules.specs.Mesh.{by_dimension, places, whole}
 use Rattle.checks.proofs.parts.quad_parts.Statement.{statement}
 use Rattle.checks.proofs.parts.quad_parts.Tie as tie
 
-returns : tie.Need-returns
+returns : tie.Need-returns-then-d-eq1
 unfolding places by_dimension whole up_from
-returns c = rw c.if1.true
+returns c = rw c.if-d-eq1.true
 
-returns-2 : tie.Need-returns-2
+returns-2 : tie.Need-returns-else-d-eq1
 unfolding places by_dimension whole up_from
 returns-2 c =
-    let e : c.before.args.d ≡ 2 = omega (arith, c.before.requires.0, c.before.requires.1, c.if1.false) in
+    let e : c.args.d ≡ 2 = omega (arith, c.requires.0, c.requires.1, c.if-d-eq1.false) in
     rw e
 
 pub quad_parts_spec : {M : Type 1} → statement M

@@ -11,23 +11,21 @@ use Rattle.checks.proofs.Scans.{Gathering, gather_start, gather_turn, gather_end
 use Rattle.checks.proofs.tables.has_coordinate_out_of_range.Statement.{statement}
 use Rattle.checks.proofs.tables.has_coordinate_out_of_range.Tie as tie
 
-abbrev invariant-loop : tie.invariant-loop
+abbrev invariant-loop : tie.invariant-loop-i
 invariant-loop xs found₀ i₀ found i = Gathering outside xs found i
 
-abbrev decreases-loop : tie.decreases-loop
+abbrev decreases-loop : tie.decreases-loop-i
 decreases-loop xs found₀ i₀ found i = length xs - i
 
 -- what the call says of the coordinate
-tested : (c : tie.After-is-outside invariant-loop decreases-loop)
-    → c.is-outside.result ≡ outside (get_or c.before.before.before.before.args.xs.now c.before.before.before.loop.i (pos 0))
+tested : (c : tie.After-is_outside-found invariant-loop decreases-loop)
+    → c.is_outside-found.result ≡ outside (get_or c.args.xs.now c.loop-i.i (pos 0))
 tested c =
-    let l = c.before.before.before in
-    rw (to_z-of_z w32 (get_or l.before.args.xs.now l.loop.i (pos 0)) (record { sfits = c.before.is-outside-arg.given })) at c.is-outside.ensures
+    rw (to_z-of_z w32 (get_or c.args.xs.now c.loop-i.i (pos 0)) (record { sfits = c.is_outside-arg-1.given })) at c.is_outside-found.ensures
 
-loop-again : tie.Need-loop-preserved invariant-loop decreases-loop
+loop-again : tie.Need-loop-i-preserved invariant-loop decreases-loop
 loop-again c =
-    let l = c.before.before in
-    rw (tested c) (gather_turn (pos 0) l.before.loop.invariant l.loop-test.true)
+    rw (tested c) (gather_turn (pos 0) c.loop-i.invariant c.loop-i-test.true)
 
 pub has_coordinate_out_of_range_spec : {M : Type 1} → statement M
 has_coordinate_out_of_range_spec =
@@ -42,4 +40,4 @@ has_coordinate_out_of_range_spec =
     (λ c. omega arith)
     (λ c. omega arith)
     loop-again
-    (λ c. gather_end c.before.loop.invariant c.loop-test.false))
+    (λ c. gather_end c.loop-i.invariant c.loop-i-test.false))

@@ -4,21 +4,21 @@ use Rattle.rules.specs.Refusals.{partial_entry}
 use Rattle.checks.proofs.tables.has_partial_entry.Statement.{statement}
 use Rattle.checks.proofs.tables.has_partial_entry.Tie as tie
 
-returns : tie.Need-returns
+returns : tie.Need-returns-then-xs-ne0
 unfolding partial_entry
-returns c = rw (ne_eqb _ _ c.if1.true)
+returns c = rw (ne_eqb _ _ c.if-xs-ne0.true)
 
-returns-2 : tie.Need-returns-2
+returns-2 : tie.Need-returns-then-hexes-ne0
 unfolding partial_entry
-returns-2 c = rw (eq-eqb _ _ c.before.if1.false, ne_eqb _ _ c.if2.true)
+returns-2 c = rw (eq-eqb _ _ c.if-xs-ne0.false, ne_eqb _ _ c.if-hexes-ne0.true)
 
-returns-3 : tie.Need-returns-3
+returns-3 : tie.Need-returns-then-quads-ne0
 unfolding partial_entry
-returns-3 c = rw (eq-eqb _ _ c.before.before.if1.false, eq-eqb _ _ c.before.if2.false, ne_eqb _ _ c.if3.true)
+returns-3 c = rw (eq-eqb _ _ c.if-xs-ne0.false, eq-eqb _ _ c.if-hexes-ne0.false, ne_eqb _ _ c.if-quads-ne0.true)
 
-returns-4 : tie.Need-returns-4
+returns-4 : tie.Need-returns-else-quads-ne0
 unfolding partial_entry
-returns-4 c = rw (eq-eqb _ _ c.before.before.if1.false, eq-eqb _ _ c.before.if2.false, eq-eqb _ _ c.if3.false)
+returns-4 c = rw (eq-eqb _ _ c.if-xs-ne0.false, eq-eqb _ _ c.if-hexes-ne0.false, eq-eqb _ _ c.if-quads-ne0.false)
 
 pub has_partial_entry_spec : {M : Type 1} → statement M
 has_partial_entry_spec = tie.close (tie.spec returns returns-2 returns-3 returns-4)

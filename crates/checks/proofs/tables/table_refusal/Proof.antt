@@ -5,65 +5,56 @@ use Rattle.rules.specs.Refusals.{coordinate_out_of_range, table_checks}
 use Rattle.checks.proofs.tables.table_refusal.Statement.{statement}
 use Rattle.checks.proofs.tables.table_refusal.Tie as tie
 
-returns : tie.Need-returns
+returns : tie.Need-returns-then-has_partial_entry
 unfolding table_checks
-returns c = rw (← c.before.has-partial-entry.ensures, c.if1.true)
+returns c = rw (← c.has_partial_entry.ensures, c.if-has_partial_entry.true)
 
-returns-2 : tie.Need-returns-2
+returns-2 : tie.Need-returns-then-has_count_out_of_range
 unfolding table_checks
 returns-2 c =
-    let b = c.before.before in
-    rw (← b.before.has-partial-entry.ensures, b.if1.false, ← c.before.has-count-out-of-range.ensures, c.if2.true)
+    rw (← c.has_partial_entry.ensures, c.if-has_partial_entry.false, ← c.has_count_out_of_range.ensures, c.if-has_count_out_of_range.true)
 
-returns-3 : tie.Need-returns-3
+returns-3 : tie.Need-returns-then-has_coordinate_out_of_range
 unfolding table_checks coordinate_out_of_range
 returns-3 c =
-    let d = c.before.before in
-    let b = d.before.before in
     rw (
-      ← b.before.has-partial-entry.ensures,
-      b.if1.false,
-      ← d.before.has-count-out-of-range.ensures,
-      d.if2.false,
-      ← c.before.has-coordinate-out-of-range.ensures,
-      c.if3.true,
+      ← c.has_partial_entry.ensures,
+      c.if-has_partial_entry.false,
+      ← c.has_count_out_of_range.ensures,
+      c.if-has_count_out_of_range.false,
+      ← c.has_coordinate_out_of_range.ensures,
+      c.if-has_coordinate_out_of_range.true,
     )
 
-has-corner-out-of-range-requires : tie.Need-has-corner-out-of-range-requires
-has-corner-out-of-range-requires c κs = let b = c.before.before.before.before in sym b.before.has-partial-entry.ensures ∙ b.if1.false
+has-corner-out-of-range-requires : tie.Need-has_corner_out_of_range-requires
+has-corner-out-of-range-requires c κs = sym c.has_partial_entry.ensures ∙ c.if-has_partial_entry.false
 
-returns-4 : tie.Need-returns-4
+returns-4 : tie.Need-returns-then-has_corner_out_of_range
 unfolding table_checks coordinate_out_of_range
 returns-4 c =
-    let e = c.before.before in
-    let d = e.before.before in
-    let b = d.before.before in
     rw (
-      ← b.before.has-partial-entry.ensures,
-      b.if1.false,
-      ← d.before.has-count-out-of-range.ensures,
-      d.if2.false,
-      ← e.before.has-coordinate-out-of-range.ensures,
-      e.if3.false,
-      ← c.before.has-corner-out-of-range.ensures,
-      c.if4.true,
+      ← c.has_partial_entry.ensures,
+      c.if-has_partial_entry.false,
+      ← c.has_count_out_of_range.ensures,
+      c.if-has_count_out_of_range.false,
+      ← c.has_coordinate_out_of_range.ensures,
+      c.if-has_coordinate_out_of_range.false,
+      ← c.has_corner_out_of_range.ensures,
+      c.if-has_corner_out_of_range.true,
     )
 
-returns-5 : tie.Need-returns-5
+returns-5 : tie.Need-returns
 unfolding table_checks coordinate_out_of_range
 returns-5 c =
-    let e = c.before.before in
-    let d = e.before.before in
-    let b = d.before.before in
     rw (
-      ← b.before.has-partial-entry.ensures,
-      b.if1.false,
-      ← d.before.has-count-out-of-range.ensures,
-      d.if2.false,
-      ← e.before.has-coordinate-out-of-range.ensures,
-      e.if3.false,
-      ← c.before.has-corner-out-of-range.ensures,
-      c.if4.false,
+      ← c.has_partial_entry.ensures,
+      c.if-has_partial_entry.false,
+      ← c.has_count_out_of_range.ensures,
+      c.if-has_count_out_of_range.false,
+      ← c.has_coordinate_out_of_range.ensures,
+      c.if-has_coordinate_out_of_range.false,
+      ← c.has_corner_out_of_range.ensures,
+      c.if-has_corner_out_of_range.false,
     )
 
 pub table_refusal_spec : {M : Type 1} → statement M

@@ -17,48 +17,45 @@ size : (s : tie.Start) → let c = length s.args.key.now in length (front c s.ar
 size s = length-take-le (words_for (length s.args.key.now) s.args.room) s.args.w.now (omega (arith, s.requires.fits))
 
 -- where the call began
-abbrev start : tie.After-known-told → tie.Start
+abbrev start : tie.In-At → tie.Start
 start c = c.before.before.before.before.before.before.before.before.before
 
-met : (c : tie.After-known-told) →
+met : (c : tie.In-At) →
     let a = (start c).args in
     let k = a.key.now in
-    Met (length k) (front (length k) a.room a.w.now) c.before.before.before.before.before.meet.new.0 a.room a.n k
-    c.before.met.given.0.0 c.before.met.given.0.1.0
-met c = rw c.before.met.given.1 at c.before.before.before.before.before.meet.ensures
+    Met (length k) (front (length k) a.room a.w.now) c.meet-met.new.w a.room a.n k
+    c.in-At.number c.in-At.count
+met c = rw c.in-At.is at c.meet-met.ensures
 
-kept : (c : tie.After-known-told) →
+kept : (c : tie.In-At) →
     let a = (start c).args in
-    length c.before.before.before.before.before.meet.new.0 ≡ words_for (length a.key.now) a.room
-kept c = c.before.before.before.before.before.meet.auto.0 ∙ size (start c)
+    length c.meet-met.new.w ≡ words_for (length a.key.now) a.room
+kept c = c.meet-met.auto.w ∙ size (start c)
 
 -- where the tag stands
-at : (c : tie.After-known-told) →
+at : (c : tie.In-At) →
     let a = (start c).args in
     let n = words_for (length a.key.now) a.room in
-    n + c.before.met.given.0.0 < length (c.before.before.before.before.before.meet.new.0 ++ drop n a.w.now)
+    n + c.in-At.number < length (c.meet-met.new.w ++ drop n a.w.now)
 at c = let s = start c in number_within s.args.key.now s.args.tag s.pre (met c) (kept c)
 
-within : (c : tie.After-known-told) → let a = (start c).args in words_for (length a.key.now) a.room + c.before.met.given.0.0 < length a.w.now
+within : (c : tie.In-At) → let a = (start c).args in words_for (length a.key.now) a.room + c.in-At.number < length a.w.now
 within c = omega (arith, (met c).known, (met c).table.used, (start c).requires.fits)
 
-returns-2 : tie.Need-returns-2
+returns-2 : tie.Need-returns-then-n-count
 returns-2 c =
-    let d = c.before in
-    let s = start d in
-    agreed_new s.args.key.now s.args.tag s.pre (met d) (kept d) c.if1.true
+    let s = start c.before in
+    agreed_new s.args.key.now s.args.tag s.pre (met c.before) (kept c.before) c.if-n-count.true
 
-returns-3 : tie.Need-returns-3
+returns-3 : tie.Need-returns-then-w-at
 returns-3 c =
-    let d = c.before.before.before in
-    let s = start d in
-    agreed_known s.args.key.now s.args.tag s.pre (met d) (kept d) c.if2.true
+    let s = start c.before.before.before in
+    agreed_known s.args.key.now s.args.tag s.pre (met c.before.before.before) (kept c.before.before.before) c.if-w-at.true
 
-returns-4 : tie.Need-returns-4
+returns-4 : tie.Need-returns
 returns-4 c =
-    let d = c.before.before.before in
-    let s = start d in
-    differed s.args.key.now s.args.tag s.pre (met d) (kept d) c.before.before.if1.false c.if2.false
+    let s = start c.before.before.before in
+    differed s.args.key.now s.args.tag s.pre (met c.before.before.before) (kept c.before.before.before) c.if-n-count.false c.if-w-at.false
 
 pub meet_spec : {M : Type 1} → statement M
 meet_spec =

@@ -16,46 +16,40 @@ met-same : (c c' : ℕ) (w w' : List ℕ) (room n : ℕ) (k k' : Key) (t : ℕ) 
 met-same c c' w w' room n k k' t r d e m = rw (d, e) at m
 
 -- the corners that are lent
-lent : (c : tie.Then1) → length (take 4 c.before.before.before.args.corners.now) ≡ 4
-lent c = let k = c.before.before.before.args.corners.now in length-take-le 4 k (omega (arith, c.if1.true))
+lent : (c : tie.Then-corners-eq4) → length (take 4 c.args.corners.now) ≡ 4
+lent c = let k = c.args.corners.now in length-take-le 4 k (omega (arith, c.if-corners-eq4.true))
 
 -- where the call began
 abbrev start : tie.After-sort → tie.Start
 start o = o.before.before.before.before.before
 
-size : (o : tie.After-sort) → length o.sort.new.0 ≡ 4
-size o = o.sort.auto.0 ∙ lent o.before.before
+size : (o : tie.After-sort) → length o.sort.new.a ≡ 4
+size o = o.sort.auto.a ∙ lent o.before.before
 
 -- the key is in front again
-front : (o : tie.After-sort) → take 4 (o.sort.new.0 ++ drop 4 (start o).args.corners.now) ≡ o.sort.new.0
-front o = take_at o.sort.new.0 (drop 4 (start o).args.corners.now) 4 (size o)
+front : (o : tie.After-sort) → take 4 (o.sort.new.a ++ drop 4 (start o).args.corners.now) ≡ o.sort.new.a
+front o = take_at o.sort.new.a (drop 4 (start o).args.corners.now) 4 (size o)
 
 meet-requires : tie.Need-meet-requires
 meet-requires c κs =
-    let o = c.before.before.before.before in
-    rw (ap length (front o) ∙ size o) (rw o.before.before.if1.true at (start o).requires)
+    rw (ap length (front c.before.before.before) ∙ size c.before.before.before) (rw c.if-corners-eq4.true at (start c.before.before.before).requires)
 
-returns : tie.Need-returns
+returns : tie.Need-returns-then-corners-eq4
 returns c =
-    let m = c.before.before in
-    let o = m.before.before.before.before.before in
-    let a = (start o).args in
-    let all = take_all 4 a.corners.now (omega (arith, o.before.before.if1.true)) in
-    met-same _ (length a.corners.now) _ _ a.room a.n _ (key_of a.corners.now) a.tag m.meet.result
-    (ap length (front o) ∙ size o ∙ sym o.before.before.if1.true)
-    (front o ∙ o.sort.ensures ∙ ap key_of all)
-    m.meet.ensures
+    let a = (start c.before.before.before.before.before.before).args in
+    let all = take_all 4 a.corners.now (omega (arith, c.if-corners-eq4.true)) in
+    met-same _ (length a.corners.now) _ _ a.room a.n _ (key_of a.corners.now) a.tag c.meet.result
+    (ap length (front c.before.before.before.before.before.before) ∙ size c.before.before.before.before.before.before ∙ sym c.if-corners-eq4.true)
+    (front c.before.before.before.before.before.before ∙ c.sort.ensures ∙ ap key_of all)
+    c.meet.ensures
 
 meet-requires-2 : tie.Need-meet-requires-2
 meet-requires-2 c κs =
-    let o = c.before.before.before.before in
-    rw o.sort2.auto.0 o.before.before.before.before.before.requires
+    rw c.sort-2.auto.a c.requires
 
-returns-2 : tie.Need-returns-2
+returns-2 : tie.Need-returns
 returns-2 c =
-    let m = c.before.before in
-    let o = m.before.before.before.before.before in
-    rw (o.sort2.auto.0, o.sort2.ensures) at m.meet2.ensures
+    rw (c.sort-2.auto.a, c.sort-2.ensures) at c.meet-2.ensures
 
 pub meet_corners_spec : {M : Type 1} → statement M
 meet_corners_spec =
@@ -65,7 +59,7 @@ meet_corners_spec =
     (λ c. sym (lent c.before))
     (λ c κs. search rules)
     (λ c. search rules)
-    (λ c. let o = c.before.before.before.before in sym (ap length (front o) ∙ size o))
+    (λ c. sym (ap length (front c.before.before.before) ∙ size c.before.before.before))
     meet-requires
     (λ c. search rules)
     (λ c. search rules)

@@ -10,20 +10,18 @@ use Rattle.checks.proofs.tagged.prepare.Statement.{statement}
 use Rattle.checks.proofs.tagged.prepare.Tie as tie
 
 -- the part that is lent has the length of a table
-size : (c : tie.After-room-in) →
-    let a = c.before.before.args in
-    let n = words_for a.c c.room_in.result in
+size : (c : tie.After-room_in-room) →
+    let a = c.args in
+    let n = words_for a.c c.room_in-room.result in
     length (take n a.w.now) ≡ n
 size c =
-    let a = c.before.before.args in
-    length-take-le (words_for a.c c.room_in.result) a.w.now (omega (arith, c.room_in.ensures.0))
+    let a = c.args in
+    length-take-le (words_for a.c c.room_in-room.result) a.w.now (omega (arith, c.room_in-room.ensures.0))
 
 returns : tie.Need-returns
 returns c =
-    let b = c.before.before in
-    let r = b.before.before in
-    tagged_start r.before.before.args.c r.room_in.result r.before.before.args.w.now b.prepare.new.0
-    (omega (arith, r.room_in.ensures.0)) r.room_in.ensures.1 b.prepare.ensures
+    tagged_start c.args.c c.room_in-room.result c.args.w.now c.prepare.new.w
+    (omega (arith, c.room_in-room.ensures.0)) c.room_in-room.ensures.1 c.prepare.ensures
 
 pub prepare_spec : {M : Type 1} → statement M
 prepare_spec =

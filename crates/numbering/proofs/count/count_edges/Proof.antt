@@ -22,18 +22,17 @@ most a =
     let x = a.args in
     omega (arith, few_keys HexEdges x.hexes.now, few_keys QuadEdges x.quads.now, few_keys Segments x.segments.now)
 
-returns : tie.Need-returns-4
+returns : tie.Need-returns
 unfolding edge_keys
 returns c =
-    let s = c.before.before.before in
-    let h = rw c.before.before.before.before.before.before.before.before.before.before.before.before.before.before.before.before.by-hexes.given.1 at c.before.before.before.before.before.before.before.before.before.before.before.before.before.before.before.before.before.before.before.before.before.meet-table.ensures in
-    let q = rw c.before.before.before.before.before.before.before.by-quads.given.1 at c.before.before.before.before.before.before.before.before.before.before.before.before.meet-table2.ensures in
-    let x = c.before.before.before.before.before.before.before.before.before.before.before.before.before.before.before.before.before.before.before.before.before.before.before.before.before.before.before.before.before.before.before.before.before.before.before.before.args in
+    let h = rw c.in-Keys.is at c.meet_table-by_hexes.ensures in
+    let q = rw c.in-Keys-by_quads.is at c.meet_table-by_quads.ensures in
+    let x = c.args in
     let a = table_keys HexEdges x.hexes.now in
     let b = table_keys QuadEdges x.quads.now in
     let d = table_keys Segments x.segments.now in
-    subst (λ (ks : List Key). CountOf ks s.meet-table3.result) (append_assoc a b d)
-    (counted (met_append h q) _ d s.meet-table3.result s.meet-table3.ensures)
+    subst (λ (ks : List Key). CountOf ks c.meet_table.result) (append_assoc a b d)
+    (counted (met_append h q) _ d c.meet_table.result c.meet_table.ensures)
 
 pub count_edges_spec : {M : Type 1} → statement M
 count_edges_spec =
@@ -42,27 +41,26 @@ count_edges_spec =
     (λ c. search rules)
     (λ c κs. search rules)
     (λ c κs. search rules)
-    (λ c. omega (arith, most c.before.before.before.before.before.before.before, c.before.parts_in.ensures, c.parts-in2.ensures))
+    (λ c. omega (arith, most c.before.before.before.before.before.before.before, c.parts_in.ensures, c.parts_in-2.ensures))
     (λ c κs. search rules)
-    (λ c. omega (arith, most c.before.before.before.before.before.before.before.before, c.before.before.parts_in.ensures, c.before.parts-in2.ensures, c.parts-in3.ensures))
-    (λ c κs. search rules)
-    (λ c. search rules)
+    (λ c. omega (arith, most c.before.before.before.before.before.before.before.before, c.parts_in.ensures, c.parts_in-2.ensures, c.parts_in-3.ensures))
     (λ c κs. search rules)
     (λ c. search rules)
-    (λ c. search rules)
-    (λ c. search rules)
-    (λ c. search rules)
-    (λ c. search rules)
-    (λ c κs. let h = c.before.before.before.before.before.before.before.before in ((rw c.before.before.before.by-hexes.given.1 at h.meet-table.ensures).table, h.meet-table.auto.1.1.1.1.1.0))
+    (λ c κs. search rules)
     (λ c. search rules)
     (λ c. search rules)
     (λ c. search rules)
     (λ c. search rules)
     (λ c. search rules)
-    (λ c κs.
-    let q = c.before.before.before.before.before.before.before.before in (
-      (rw c.before.before.before.by-quads.given.1 at q.meet-table2.ensures).table,
-      q.meet-table2.auto.1.1.1.1.1.0 ∙ c.before.before.before.before.before.before.before.before.before.before.before.before.before.before.before.before.before.meet-table.auto.1.1.1.1.1.0,
+    (λ c κs. ((rw c.in-Keys.is at c.meet_table-by_hexes.ensures).table, c.meet_table-by_hexes.auto.key))
+    (λ c. search rules)
+    (λ c. search rules)
+    (λ c. search rules)
+    (λ c. search rules)
+    (λ c. search rules)
+    (λ c κs. (
+      (rw c.in-Keys-by_quads.is at c.meet_table-by_quads.ensures).table,
+      c.meet_table-by_quads.auto.key ∙ c.meet_table-by_hexes.auto.key,
     ))
     (λ c. search rules)
     returns)

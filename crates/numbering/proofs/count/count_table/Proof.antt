@@ -13,8 +13,8 @@ count_table_spec =
     (tie.spec
     (λ c. search rules)
     (λ c κs. search rules)
-    (λ c κs. let a = c.before.before.before.before.before.before in (omega (arith, c.before.before.if1.false), omega (arith, a.requires, small_parts a.args.of)))
-    (λ c κs. let a = c.before.before.before.before.before.before.before.before.before.before.before in (rw a.requires at c.before.before.before.before.prepare-for.ensures, a.requires))
+    (λ c κs. (omega (arith, c.if-w-eq0.false), omega (arith, c.requires, small_parts c.args.of)))
+    (λ c κs. (rw c.requires at c.prepare_for-room.ensures, c.requires))
     (λ c. search rules)
     (λ c. search rules)
-    (λ c. let m = c.before.before.before.before in let a = c.before.before.before.before.before.before.before.before.before.before.before.before.before.before.before.before in counted (met_none (rw a.requires at c.before.before.before.before.before.before.before.before.before.prepare-for.ensures)) _ (table_keys a.args.of a.args.cells.now) m.meet-table.result m.meet-table.ensures))
+    (λ c. counted (met_none (rw c.requires at c.prepare_for-room.ensures)) _ (table_keys c.args.of c.args.cells.now) c.meet_table.result c.meet_table.ensures))

@@ -7,9 +7,9 @@ use Rattle.numbering.proofs.count.prepare_for.Tie as tie
 
 returns : tie.Need-returns
 returns c =
-    let r = c.before.before.before.before.room_in in
-    let x = c.before.before.before.before.before.before.args in
-    rw c.before.before.prepare.ensures (table_prepared x.c x.w.now r.result (omega (arith, r.ensures.0)) r.ensures.1)
+    let r = c.room_in-room in
+    let x = c.args in
+    rw c.prepare.ensures (table_prepared x.c x.w.now r.result (omega (arith, r.ensures.0)) r.ensures.1)
 
 pub prepare_for_spec : {M : Type 1} → statement M
 prepare_for_spec =

@@ -8,9 +8,9 @@ use Rattle.numbering.proofs.count.room_in.Tie as tie
 
 returns : tie.Need-returns
 returns c =
-    let x = c.before.before.args in
-    let r = c.least2.ensures in
-    (omega (arith, mul-div-le (x.words - 1) x.size, mul-le-mul_left x.size r.0), omega (arith, r.1, c.before.least.ensures.1))
+    let x = c.args in
+    let r = c.least.ensures in
+    (omega (arith, mul-div-le (x.words - 1) x.size, mul-le-mul_left x.size r.0), omega (arith, r.1, c.least-bound.ensures.1))
 
 pub room_in_spec : {M : Type 1} → statement M
 room_in_spec = tie.close (tie.spec (λ c κs. search rules) (λ c. search rules) (λ c. search rules) (λ c κs. search rules) returns)

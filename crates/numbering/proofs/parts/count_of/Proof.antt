@@ -26,21 +26,21 @@ one Segments k = refl
 one SegmentFaces k = absurd (miss (2 ∷ 4 ∷ 5 ∷ 7 ∷ []) 6 tt k)
 one Points k = refl
 
-returns : tie.Need-returns
+returns : tie.Need-returns-in-HexEdges
 unfolding places by_dimension
-returns c = rw c.enum_told.given.1
+returns c = rw c.in-HexEdges.is
 
-returns-2 : tie.Need-returns-2
+returns-2 : tie.Need-returns-in-HexFaces
 unfolding places by_dimension
-returns-2 c = rw c.enum-told2.given.1
+returns-2 c = rw c.in-HexFaces.is
 
-returns-3 : tie.Need-returns-3
+returns-3 : tie.Need-returns-in-QuadEdges
 unfolding places by_dimension
-returns-3 c = rw c.enum-told3.given.1
+returns-3 c = rw c.in-QuadEdges.is
 
-returns-4 : tie.Need-returns-4
+returns-4 : tie.Need-returns-in-SegmentFaces
 unfolding places by_dimension
-returns-4 c = rw c.enum-told4.given.1
+returns-4 c = rw c.in-SegmentFaces.is
 
 pub count_of_spec : {M : Type 1} → statement M
 count_of_spec =
@@ -54,4 +54,4 @@ count_of_spec =
     returns-2
     returns-3
     returns-4
-    (λ c. one c.before.args.parts c.match.keys5))
+    (λ c. one c.args.parts c.in-Hexes.in-Hexes-own.keys5))

@@ -16,34 +16,33 @@ read_at : (from places : List ℕ) (i : ℕ) → i < length places → get_or fr
 unfolding corners_at
 read_at from places i l = sym (get_or_map (λ (q : ℕ). get_or from q 0) places i 0 0 l)
 
-abbrev invariant-loop : tie.invariant-loop
+abbrev invariant-loop : tie.invariant-loop-i
 invariant-loop places from to₀ i₀ to i = Storing 0 (corners_at from places) to₀ to i
 
-abbrev decreases-loop : tie.decreases-loop
+abbrev decreases-loop : tie.decreases-loop-i
 decreases-loop places from to₀ i₀ to i = length places - i
 
 -- the number that is read lies within the list
-inside : (c : tie.After-wide invariant-loop decreases-loop) → c.wide.result < length c.before.before.before.before.before.before.before.args.from.now
-inside c = rw c.wide.ensures (c.before.before.before.before.before.before.before.requires.1 c.before.before.before.loop.i c.before.before.loop-test.true)
+inside : (c : tie.After-wide-place invariant-loop decreases-loop) → c.wide-place.result < length c.args.from.now
+inside c = rw c.wide-place.ensures (c.requires.1 c.loop-i.i c.loop-i-test.true)
 
 -- and has its place
-room : (c : tie.After-shared-slice-known4 invariant-loop decreases-loop) → c.before.before.before.before.loop.i < length c.before.before.before.before.loop.to
-room c = omega (arith, c.before.before.before.loop-test.true, c.before.before.before.before.loop.invariant.long, c.before.before.before.before.before.before.before.before.requires.0)
+room : (c : tie.After-shared_slice_known-in-loop-i-2-1 invariant-loop decreases-loop) → c.loop-i.i < length c.loop-i.to
+room c = omega (arith, c.loop-i-test.true, c.loop-i.invariant.long, c.requires.0)
 
-loop-again : tie.Need-loop-preserved invariant-loop decreases-loop
+loop-again : tie.Need-loop-i-preserved invariant-loop decreases-loop
 loop-again c =
-    let l = c.before.before.before.before.loop in
-    let x = c.before.before.before.before.before.before.before.before.args in
-    let u = c.before.before.before.loop-test.true in
-    let e = ap (λ (q : ℕ). get_or x.from.now q 0) c.before.wide.ensures ∙ read_at x.from.now x.places.now l.i u in
+    let l = c.loop-i in
+    let x = c.args in
+    let u = c.loop-i-test.true in
+    let e = ap (λ (q : ℕ). get_or x.from.now q 0) c.wide-place.ensures ∙ read_at x.from.now x.places.now l.i u in
     front_turn 0 e l.invariant (omega (arith, u, length_read x.from.now x.places.now))
 
 returns : tie.Need-returns invariant-loop decreases-loop
 returns c =
-    let l = c.before.loop in
-    let a = c.before.before.before.before.before in
-    let n = length_read a.args.from.now a.args.places.now in
-    store_end l.invariant (omega (arith, n, c.loop-test.false)) ∙ sets_whole a.args.to.now _ (n ∙ sym a.requires.0)
+    let l = c.loop-i in
+    let n = length_read c.args.from.now c.args.places.now in
+    store_end l.invariant (omega (arith, n, c.loop-i-test.false)) ∙ sets_whole c.args.to.now _ (n ∙ sym c.requires.0)
 
 pub load_spec : {M : Type 1} → statement M
 load_spec =
@@ -52,14 +51,14 @@ load_spec =
     invariant-loop
     decreases-loop
     (λ c. store_start _ _ _)
-    (λ c. c.before.loop-test.true)
+    (λ c. c.loop-i-test.true)
     (λ c κs. search rules)
     (λ c. omega (arith, inside c))
     (λ c. inside c.before)
     (λ c. omega (arith, room c))
     (λ c. room c)
     (λ c. omega (arith, room c))
-    (λ c. omega (arith, c.before.before.before.loop-test.true))
+    (λ c. omega (arith, c.loop-i-test.true))
     loop-again
-    (λ c. c.before.loop.invariant.long)
+    (λ c. c.loop-i.invariant.long)
     returns)

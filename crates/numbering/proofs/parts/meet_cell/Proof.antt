@@ -20,28 +20,25 @@ tallied c w w' room n ks old new Full a = a
 inside : (a : tie.Start) → a.args.size * a.args.cell + a.args.size ≤ length a.args.cells.now
 inside a = entry_end a.args.size a.args.cell a.args.cells.now a.requires.1.1.1
 
-meet-parts-requires : tie.Need-meet-parts-requires
-meet-parts-requires c κs =
-    let a = c.before.before.before.before.before.before.before.before in (
-      a.requires.0,
-      (
-        a.requires.1.0.0,
-        (
-          λ i l. rw (entry_length a.args.size a.args.cell a.args.cells.now a.requires.1.1.1) (a.requires.1.1.0 i l),
-          (omega (arith, a.requires.0.few), omega (arith, a.requires.1.0.1)),
-        ),
-      ),
-    )
+meet-parts-requires : tie.Need-meet_parts-requires
+meet-parts-requires c κs = (
+  c.requires.0,
+  (
+    c.requires.1.0.0,
+    (
+      λ i l. rw (entry_length c.args.size c.args.cell c.args.cells.now c.requires.1.1.1) (c.requires.1.1.0 i l),
+      (omega (arith, c.requires.0.few), omega (arith, c.requires.1.0.1)),
+    ),
+  ),
+)
 
 returns : tie.Need-returns
 returns c =
-    let m = c.before.before.before.before.before in
-    let a = c.before.before.before.before.before.before.before.before.before.before.before.before.before.before in
-    let x = a.args in
+    let x = c.args in
     let k = length x.key.now in
-    let e = entry_is x.size x.cell x.cells.now a.requires.1.1.1 in
+    let e = entry_is x.size x.cell x.cells.now c.requires.1.1.1 in
     let ks = listed_keys k x.places.now (take (x.size * x.cell + x.size - x.size * x.cell) (drop (x.size * x.cell) x.cells.now)) in
-    rw (← e) (tallied k x.w.now _ x.room x.n ks _ _ m.meet-parts.result m.meet-parts.ensures)
+    rw (← e) (tallied k x.w.now _ x.room x.n ks _ _ c.meet_parts.result c.meet_parts.ensures)
 
 pub meet_cell_spec : {M : Type 1} → statement M
 meet_cell_spec =

@@ -40,12 +40,12 @@ module _ {f : List ℕ → List Key} {c size : ℕ} {cells w₀ w : List ℕ} {r
   end : length cells / size ≤ i → MetAll c w₀ w room n (concat_map f (cut size cells)) known
   end l = rw (take_all i (cut size cells) (omega (arith, length_cut size cells))) at p.met
 
-abbrev invariant-loop : tie.invariant-loop
+abbrev invariant-loop : tie.invariant-loop-cell
 invariant-loop w₀ room n places count cells size key₀ number known₀ cell₀ w key known cell =
     (length w ≡ length w₀) × (length key ≡ length key₀)
     × Passed (listed_keys (length key₀) places) (length key₀) size cells w₀ w room n known cell
 
-abbrev decreases-loop : tie.decreases-loop
+abbrev decreases-loop : tie.decreases-loop-cell
 decreases-loop w₀ room n places count cells size key₀ number known₀ cell₀ w key known cell = number - cell
 
 pub meet_cells_spec : {M : Type 1} → statement M
@@ -54,23 +54,22 @@ meet_cells_spec =
     (tie.spec
     invariant-loop
     decreases-loop
-    (λ c. c.before.before.before.before.requires.1.1.1)
-    (λ c. (refl, refl, start _ _ _ _ _ _ _ c.before.before.before.before.requires.0))
-    (λ c κs. let l = c.before.before.before.loop in let a = c.before.before.before.before.before.before.before.before in rw l.invariant.1 (l.invariant.2.met.table, (a.requires.1.0, (a.requires.1.1.0, c.before.before.loop-test.true))))
+    (λ c. c.requires.1.1.1)
+    (λ c. (refl, refl, start _ _ _ _ _ _ _ c.requires.0))
+    (λ c κs. let l = c.loop-cell in rw l.invariant.1 (l.invariant.2.met.table, (c.requires.1.0, (c.requires.1.1.0, c.loop-cell-test.true))))
     (λ c. search rules)
     (λ c. search rules)
-    (λ c. c.before.before.before.before.before.before.meet-cell.auto.0 ∙ c.before.before.before.before.before.before.before.before.before.before.loop.invariant.0)
-    (λ c. c.before.before.before.before.before.before.meet-cell.auto.1.1.1.1.1.1.1.1.0 ∙ c.before.before.before.before.before.before.before.before.before.before.loop.invariant.1)
-    (λ c. let l = c.before.before.before.before.before.before.before.before.before.before.loop in full l.invariant.2 c.before.before.before.before.before.before.before.before.before.loop-test.true (rw l.invariant.1 at (rw c.enum_told.given.1 at c.before.before.before.before.before.before.meet-cell.ensures)))
-    (λ c. let a = c.before.before.before.before.before.before.before.before.before.before.before.before.before.before.before.before.args in omega (arith, c.before.before.before.before.before.before.before.before.before.before.loop-test.true, div-le_self (length a.cells.now) a.size))
-    (λ c. omega (arith, c.before.before.before.before.before.before.before.before.before.before.loop-test.true))
-    (λ c.
-    let l = c.before.before.before.before.before.before.before.before.before.before.before.loop in
-    let m = c.before.before.before.before.before.before.before.meet-cell in (
-      m.auto.0 ∙ l.invariant.0,
-      m.auto.1.1.1.1.1.1.1.1.0 ∙ l.invariant.1,
-      turn l.invariant.2 c.before.before.before.before.before.before.before.before.before.before.loop-test.true (rw l.invariant.1 at (rw c.before.met.given.1 at m.ensures)),
+    (λ c. c.meet_cell-met.auto.w ∙ c.loop-cell.invariant.0)
+    (λ c. c.meet_cell-met.auto.key ∙ c.loop-cell.invariant.1)
+    (λ c. let l = c.loop-cell in full l.invariant.2 c.loop-cell-test.true (rw l.invariant.1 at (rw c.in_default.is at c.meet_cell-met.ensures)))
+    (λ c. let a = c.args in omega (arith, c.loop-cell-test.true, div-le_self (length a.cells.now) a.size))
+    (λ c. omega (arith, c.loop-cell-test.true))
+    (λ c. let l = c.loop-cell in
+    let m = c.meet_cell-met in (
+      m.auto.w ∙ l.invariant.0,
+      m.auto.key ∙ l.invariant.1,
+      turn l.invariant.2 c.loop-cell-test.true (rw l.invariant.1 at (rw c.in-Keys.is at m.ensures)),
     ))
-    (λ c. c.before.loop.invariant.0)
-    (λ c. c.before.loop.invariant.1)
-    (λ c. end c.before.loop.invariant.2 c.loop-test.false))
+    (λ c. c.loop-cell.invariant.0)
+    (λ c. c.loop-cell.invariant.1)
+    (λ c. end c.loop-cell.invariant.2 c.loop-cell-test.false))

@@ -8,22 +8,20 @@ use Rattle.numbering.proofs.parts.meet_part.Statement.{statement}
 use Rattle.numbering.proofs.parts.meet_part.Tie as tie
 
 key-is : (s : tie.After-sort) →
-    let x = s.before.before.before.before.before.before.before.before.before.before.args in
-    (s.sort.new.0 ≡ key_at x.cell.now x.places.now) × (length s.sort.new.0 ≡ length x.key.now)
+    let x = s.args in
+    (s.sort.new.a ≡ key_at x.cell.now x.places.now) × (length s.sort.new.a ≡ length x.key.now)
 unfolding key_at
 key-is s =
-    let d = s.before.before.before.before in
-    (s.sort.ensures ∙ ap key_of d.load.ensures, s.sort.auto.0 ∙ d.load.auto.1.1.0)
+    (s.sort.ensures ∙ ap key_of s.load.ensures, s.sort.auto.a ∙ s.load.auto.to)
 
 meet-requires : tie.Need-meet-requires
 meet-requires c κs =
-    let s = c.before.before.before.before in
-    rw (key-is s).1 s.before.before.before.before.before.before.before.before.before.before.requires.0
+    rw (key-is c.before.before.before).1 c.requires.0
 
 returns : tie.Need-returns
 returns c =
-    let k = key-is c.before.before.before.before.before.before.before in
-    rw (k.1, k.0) at c.before.before.meet.ensures
+    let k = key-is c.before.before.before.before.before.before in
+    rw (k.1, k.0) at c.meet.ensures
 
 pub meet_part_spec : {M : Type 1} → statement M
 meet_part_spec =

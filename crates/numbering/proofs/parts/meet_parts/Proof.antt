@@ -11,66 +11,61 @@ use Rattle.numbering.proofs.Passes.{entry_end, entry_length, Progress, progress_
 use Rattle.numbering.proofs.parts.meet_parts.Statement.{statement}
 use Rattle.numbering.proofs.parts.meet_parts.Tie as tie
 
-abbrev invariant-loop : tie.invariant-loop
+abbrev invariant-loop : tie.invariant-loop-part
 invariant-loop w₀ room n places count cell base key₀ numbers₀ to c known₀ part₀ w key numbers known part =
     (length w ≡ length w₀) × (length key ≡ length key₀) × (length numbers ≡ length numbers₀)
     × Progress (length key₀) w₀ w room n (listed_keys (length key₀) places cell) base to numbers₀ numbers known part
 
-abbrev decreases-loop : tie.decreases-loop
+abbrev decreases-loop : tie.decreases-loop-part
 decreases-loop w₀ room n places count cell base key₀ numbers₀ to c known₀ part₀ w key numbers known part = count - part
 
 -- the part is one of those listed
-listed : (c : tie.In-loop invariant-loop decreases-loop) → let a = c.before.before.before.before.before.before.before.args in c.before.loop.part < length a.places.now / length a.key.now
-listed c = omega (arith, c.loop-test.true, c.before.before.before.before.before.before.before.requires.1.0)
+listed : (c : tie.In-loop-part invariant-loop decreases-loop) → let a = c.args in c.loop-part.part < length a.places.now / length a.key.now
+listed c = omega (arith, c.loop-part-test.true, c.requires.1.0)
 
-row_ends : (c : tie.In-loop invariant-loop decreases-loop) →
-    let a = c.before.before.before.before.before.before.before.args in
-    length a.key.now * c.before.loop.part + length a.key.now ≤ length a.places.now
-row_ends c = let a = c.before.before.before.before.before.before.before.args in entry_end (length a.key.now) c.before.loop.part a.places.now (listed c)
+row_ends : (c : tie.In-loop-part invariant-loop decreases-loop) →
+    let a = c.args in
+    length a.key.now * c.loop-part.part + length a.key.now ≤ length a.places.now
+row_ends c = let a = c.args in entry_end (length a.key.now) c.loop-part.part a.places.now (listed c)
 
 -- the part's number fits: it is below the room
-number_fits : (c : tie.After-known-told invariant-loop decreases-loop) → c.before.before.before.before.before.before.before.before.before.before.before.before.before.before.before.before.before.before.args.base + c.before.met.given.0.0 < 2 ^ 32
+number_fits : (c : tie.In-At invariant-loop decreases-loop) → c.args.base + c.in-At.number < 2 ^ 32
 number_fits c =
-    let m = rw c.before.met.given.1 at c.before.before.before.before.before.before.before.meet-part.ensures in
-    omega (arith, m.known, m.table.used, c.before.before.before.before.before.before.before.before.before.before.before.before.before.before.before.before.before.before.requires.1.1.1.0)
+    let m = rw c.in-At.is at c.meet_part-met.ensures in
+    omega (arith, m.known, m.table.used, c.requires.1.1.1.0)
 
 -- the place of the part's number
-inside : (c : tie.After-known-told invariant-loop decreases-loop) → c.before.before.before.before.before.before.before.before.before.before.before.before.before.before.before.before.before.before.args.to + c.before.before.before.before.before.before.before.before.before.before.before.before.loop.part < length c.before.before.before.before.before.before.before.before.before.before.before.before.before.before.before.before.before.before.args.numbers.now
-inside c = omega (arith, c.before.before.before.before.before.before.before.before.before.before.before.loop-test.true, c.before.before.before.before.before.before.before.before.before.before.before.before.before.before.before.before.before.before.requires.1.1.1.1)
+inside : (c : tie.In-At invariant-loop decreases-loop) → c.args.to + c.loop-part.part < length c.args.numbers.now
+inside c = omega (arith, c.loop-part-test.true, c.requires.1.1.1.1)
 
-meet-part-requires : tie.Need-meet-part-requires invariant-loop decreases-loop
+meet-part-requires : tie.Need-meet_part-met-requires invariant-loop decreases-loop
 meet-part-requires c κs =
-    let i = c.before.before.before in
-    let l = i.before.loop in
-    let a = i.before.before.before.before.before.before.before in
-    let k = length a.args.key.now in (
+    let l = c.loop-part in
+    let k = length c.args.key.now in (
       rw l.invariant.1 l.invariant.3.met.table,
-      (l.invariant.1 ∙ sym (entry_length k l.part a.args.places.now (listed i)), row_within k l.part a.args.places.now (listed i) _ a.requires.1.1.0),
+      (l.invariant.1 ∙ sym (entry_length k l.part c.args.places.now (listed c.before.before.before)), row_within k l.part c.args.places.now (listed c.before.before.before) _ c.requires.1.1.0),
     )
 
-returns : tie.Need-returns invariant-loop decreases-loop
+returns : tie.Need-returns-in_default invariant-loop decreases-loop
 returns c =
-    let i = c.before.before.before.before.before.before.before.before.before.before in
-    let l = i.before.loop in
-    let x = i.before.before.before.before.before.before.before.args in
+    let l = c.loop-part in
+    let x = c.args in
     let k = length x.key.now in
-    let m = rw c.enum_told.given.1 at c.before.before.before.before.before.before.meet-part.ensures in
-    progress_full l.invariant.3 (row_key k l.part x.places.now (listed i) x.cell.now)
-    (omega (arith, listed i, length_listed_keys k x.places.now x.cell.now)) (rw l.invariant.1 at m.1)
+    let m = rw c.in_default.is at c.meet_part-met.ensures in
+    progress_full l.invariant.3 (row_key k l.part x.places.now (listed c.before.before.before.before.before.before.before.before.before) x.cell.now)
+    (omega (arith, listed c.before.before.before.before.before.before.before.before.before, length_listed_keys k x.places.now x.cell.now)) (rw l.invariant.1 at m.1)
 
-loop-again : tie.Need-loop-preserved invariant-loop decreases-loop
+loop-again : tie.Need-loop-part-preserved invariant-loop decreases-loop
 loop-again c =
-    let i = c.before.before.before.before.before.before.before.before.before.before.before in
-    let l = i.before.loop in
-    let x = i.before.before.before.before.before.before.before.args in
+    let l = c.loop-part in
+    let x = c.args in
     let k = length x.key.now in
-    let d = c.before.before.before.before.before.before.before in
-    let m = rw l.invariant.1 at (rw c.before.met.given.1 at d.meet-part.ensures) in (
-      d.meet-part.auto.0 ∙ l.invariant.0,
-      d.meet-part.auto.1.1.1.1.1.0 ∙ l.invariant.1,
+    let m = rw l.invariant.1 at (rw c.in-At.is at c.meet_part-met.ensures) in (
+      c.meet_part-met.auto.w ∙ l.invariant.0,
+      c.meet_part-met.auto.key ∙ l.invariant.1,
       simp length-set l.invariant.2,
-      progress_turn l.invariant.3 m (row_key k l.part x.places.now (listed i) x.cell.now)
-          (omega (arith, listed i, length_listed_keys k x.places.now x.cell.now)),
+      progress_turn l.invariant.3 m (row_key k l.part x.places.now (listed c.before.before.before.before.before.before.before.before.before) x.cell.now)
+          (omega (arith, listed c.before.before.before.before.before.before.before.before.before, length_listed_keys k x.places.now x.cell.now)),
     )
 
 pub meet_parts_spec : {M : Type 1} → statement M
@@ -79,7 +74,7 @@ meet_parts_spec =
     (tie.spec
     invariant-loop
     decreases-loop
-    (λ c. (refl, refl, refl, progress_start _ _ _ _ c.before.before.before.before.before.requires.0))
+    (λ c. (refl, refl, refl, progress_start _ _ _ _ c.requires.0))
     (λ c. omega (arith, row_ends c))
     (λ c. omega (arith, row_ends c))
     (λ c. omega (arith, row_ends c.before))
@@ -88,19 +83,19 @@ meet_parts_spec =
     meet-part-requires
     (λ c. search rules)
     (λ c. search rules)
-    (λ c. c.before.before.before.before.before.before.meet-part.auto.0 ∙ c.before.before.before.before.before.before.before.before.before.before.before.loop.invariant.0)
-    (λ c. c.before.before.before.before.before.before.meet-part.auto.1.1.1.1.1.0 ∙ c.before.before.before.before.before.before.before.before.before.before.before.loop.invariant.1)
-    (λ c. c.before.before.before.before.before.before.before.before.before.before.before.loop.invariant.2)
+    (λ c. c.meet_part-met.auto.w ∙ c.loop-part.invariant.0)
+    (λ c. c.meet_part-met.auto.key ∙ c.loop-part.invariant.1)
+    (λ c. c.loop-part.invariant.2)
     returns
     (λ c. omega (arith, number_fits c))
     (λ c. omega (arith, number_fits c))
     (λ c. omega (arith, inside c))
     (λ c. omega (arith, inside c))
-    (λ c. omega (arith, inside c, c.before.before.before.before.before.before.before.before.before.before.before.before.loop.invariant.2))
+    (λ c. omega (arith, inside c, c.loop-part.invariant.2))
     (λ c. omega (arith, inside c))
-    (λ c. omega (arith, c.before.before.before.before.before.before.before.before.before.before.before.loop-test.true))
+    (λ c. omega (arith, c.loop-part-test.true))
     loop-again
-    (λ c. c.before.loop.invariant.0)
-    (λ c. c.before.loop.invariant.1)
-    (λ c. c.before.loop.invariant.2)
-    (λ c. let a = c.before.before.before.before.before.before.before in progress_end c.before.loop.invariant.3 (omega (arith, length_listed_keys (length a.args.key.now) a.args.places.now a.args.cell.now, a.requires.1.0, c.loop-test.false))))
+    (λ c. c.loop-part.invariant.0)
+    (λ c. c.loop-part.invariant.1)
+    (λ c. c.loop-part.invariant.2)
+    (λ c. progress_end c.loop-part.invariant.3 (omega (arith, length_listed_keys (length c.args.key.now) c.args.places.now c.args.cell.now, c.requires.1.0, c.loop-part-test.false))))

@@ -37,29 +37,29 @@ itself Quads k (suc part) corner l u = absurd (omega arith)
 itself Segments k (suc part) corner l u = absurd (omega arith)
 itself Points k (suc part) corner l u = absurd (omega arith)
 
-hex-edge-requires : tie.Need-hex-edge-requires
+hex-edge-requires : tie.Need-hex_edge-requires
 unfolding places by_dimension
-hex-edge-requires c κs = rw c.enum_told.given.1 at c.before.before.requires
+hex-edge-requires c κs = rw c.in-HexEdges.is at c.requires
 
-hex-face-requires : tie.Need-hex-face-requires
+hex-face-requires : tie.Need-hex_face-requires
 unfolding places by_dimension
-hex-face-requires c κs = rw c.enum-told2.given.1 at c.before.before.requires
+hex-face-requires c κs = rw c.in-HexFaces.is at c.requires
 
-quad-edge-requires : tie.Need-quad-edge-requires
+quad-edge-requires : tie.Need-quad_edge-requires
 unfolding places by_dimension
-quad-edge-requires c κs = rw c.enum-told3.given.1 at c.before.before.requires
+quad-edge-requires c κs = rw c.in-QuadEdges.is at c.requires
 
-returns : tie.Need-returns
+returns : tie.Need-returns-in-HexEdges
 unfolding places by_dimension
-returns c = rw c.before.enum_told.given.1 c.hex-edge.ensures
+returns c = rw c.in-HexEdges.is c.hex_edge.ensures
 
-returns-2 : tie.Need-returns-2
+returns-2 : tie.Need-returns-in-HexFaces
 unfolding places by_dimension
-returns-2 c = rw c.before.enum-told2.given.1 c.hex-face.ensures
+returns-2 c = rw c.in-HexFaces.is c.hex_face.ensures
 
-returns-3 : tie.Need-returns-3
+returns-3 : tie.Need-returns-in-QuadEdges
 unfolding places by_dimension
-returns-3 c = rw c.before.enum-told3.given.1 c.quad-edge.ensures
+returns-3 c = rw c.in-QuadEdges.is c.quad_edge.ensures
 
 pub place_of_spec : {M : Type 1} → statement M
 place_of_spec =
@@ -74,4 +74,4 @@ place_of_spec =
     returns
     returns-2
     returns-3
-    (λ c. itself c.before.args.parts c.match.keys4 c.before.args.part c.before.args.corner c.before.requires.0 c.before.requires.1))
+    (λ c. itself c.args.parts c.in-Hexes.in-Hexes-own.keys4 c.args.part c.args.corner c.requires.0 c.requires.1))

@@ -17,10 +17,9 @@ inside a =
 returns : tie.Need-returns
 unfolding entered
 returns c =
-    let a = c.before.before.before.before.before.before.before in
-    let x = a.args in
-    rw (c.before.before.put.ensures, a.requires.1.1.0, add-one (place (length x.key.now) x.room x.n))
-    (met_new x.w.now x.room x.n x.key.now a.requires.0 a.requires.1.0 a.requires.1.1.1)
+    let x = c.args in
+    rw (c.put.ensures, c.requires.1.1.0, add-one (place (length x.key.now) x.room x.n))
+    (met_new x.w.now x.room x.n x.key.now c.requires.0 c.requires.1.0 c.requires.1.1.1)
 
 pub enter_spec : {M : Type 1} → statement M
 enter_spec =
@@ -39,6 +38,6 @@ enter_spec =
     (λ c. search rules)
     (λ c. search rules)
     (λ c. omega (arith, inside c.before.before.before.before.before.before.before))
-    (λ c. omega (arith, inside c.before.before.before.before.before.before.before, simp length-set at c.before.before.put.auto.0))
-    (λ c. simp length-set (simp length-set at c.before.before.put.auto.0))
+    (λ c. omega (arith, inside c.before.before.before.before.before.before.before, simp length-set at c.put.auto.w))
+    (λ c. simp length-set (simp length-set at c.put.auto.w))
     returns)

@@ -10,48 +10,36 @@ use Rattle.numbering.proofs.Entries.{Walk, walk_start, walk_on, walk_hit, walk_e
 use Rattle.numbering.proofs.table.find.Statement.{statement}
 use Rattle.numbering.proofs.table.find.Tie as tie
 
-abbrev invariant-loop : tie.invariant-loop
+abbrev invariant-loop : tie.invariant-loop-x
 invariant-loop w room n s key size entries first x₀ x = Walk (length key) w room n key x
 
-abbrev decreases-loop : tie.decreases-loop
+abbrev decreases-loop : tie.decreases-loop-x
 decreases-loop w room n s key size entries first x₀ x = x
 
 -- the entry that the walk has come to lies within the list
-inside : (c : tie.In-loop invariant-loop decreases-loop) →
-    let a = c.before.before.before.before.before.before in
-    place (length a.args.key.now) a.args.room (c.before.loop.x - 1) + (length a.args.key.now + 1) ≤ length a.args.w.now
+inside : (c : tie.In-loop-x invariant-loop decreases-loop) →
+    place (length c.args.key.now) c.args.room (c.loop-x.x - 1) + (length c.args.key.now + 1) ≤ length c.args.w.now
 inside c =
-    let l = c.before in
-    let a = l.before.before.before.before.before in
-    entry_ends a.requires.0 (l.loop.x - 1) (omega (arith, c.loop-test.true, l.loop.invariant.within, a.requires.0.used))
+    entry_ends c.requires.0 (c.loop-x.x - 1) (omega (arith, c.loop-x-test.true, c.loop-x.invariant.within, c.requires.0.used))
 
-loop-holds : tie.Need-loop-init invariant-loop decreases-loop
+loop-holds : tie.Need-loop-x-init invariant-loop decreases-loop
 loop-holds c =
-    let a = c.before.before.before.before in
-    walk_start a.requires.0 a.args.key.now _ _ a.requires.1 c.wide.ensures
+    walk_start c.requires.0 c.args.key.now _ _ c.requires.1 c.wide-x.ensures
 
-returns : tie.Need-returns invariant-loop decreases-loop
+returns : tie.Need-returns-then-is_at invariant-loop decreases-loop
 returns c =
-    let l = c.before.before.before in
-    let a = l.before.before.before.before.before in
-    walk_hit a.requires.0 a.args.key.now l.loop.x c.before.before.loop-test.true l.loop.invariant (sym c.if1.true ∙ c.before.is_at.ensures)
+    walk_hit c.requires.0 c.args.key.now c.loop-x.x c.loop-x-test.true c.loop-x.invariant (sym c.if-is_at.true ∙ c.is_at.ensures)
 
 -- the link that is followed: its walk goes on, and it is less
-next-link : (c : tie.After-wide2 invariant-loop decreases-loop) →
-    let l = c.before.before.before.before.before in
-    let a = l.before.before.before.before.before.args in
-    Walk (length a.key.now) a.w.now a.room a.n a.key.now c.wide2.result × (c.wide2.result < l.loop.x)
+next-link : (c : tie.After-wide-x-in-loop-x invariant-loop decreases-loop) →
+    let a = c.args in
+    Walk (length a.key.now) a.w.now a.room a.n a.key.now c.wide-x-in-loop-x.result × (c.wide-x-in-loop-x.result < c.loop-x.x)
 next-link c =
-    let i = c.before.before in
-    let l = i.before.before.before in
-    let a = l.before.before.before.before.before in
-    walk_on a.requires.0 a.args.key.now l.loop.x c.wide2.result i.before.before.loop-test.true l.loop.invariant (sym i.if1.false ∙ i.before.is_at.ensures) c.wide2.ensures
+    walk_on c.requires.0 c.args.key.now c.loop-x.x c.wide-x-in-loop-x.result c.loop-x-test.true c.loop-x.invariant (sym c.if-is_at.false ∙ c.is_at.ensures) c.wide-x-in-loop-x.ensures
 
-returns-2 : tie.Need-returns-2 invariant-loop decreases-loop
+returns-2 : tie.Need-returns invariant-loop decreases-loop
 returns-2 c =
-    let l = c.before in
-    let a = l.before.before.before.before.before in
-    walk_end a.requires.0 a.args.key.now l.loop.x c.loop-test.false l.loop.invariant
+    walk_end c.requires.0 c.args.key.now c.loop-x.x c.loop-x-test.false c.loop-x.invariant
 
 pub find_spec : {M : Type 1} → statement M
 find_spec =
@@ -61,8 +49,8 @@ find_spec =
     decreases-loop
     (λ c. omega arith)
     (λ c. omega arith)
-    (λ c. let a = c.before.before in omega (arith, a.requires.0.fits, slot_below a.args.room a.args.key.now))
-    (λ c. let a = c.before.before.before in omega (arith, a.requires.0.fits, slot_below a.args.room a.args.key.now))
+    (λ c. omega (arith, c.requires.0.fits, slot_below c.args.room c.args.key.now))
+    (λ c. omega (arith, c.requires.0.fits, slot_below c.args.room c.args.key.now))
     (λ c κs. search rules)
     loop-holds
     (λ c. omega arith)

@@ -10,28 +10,25 @@ use Rattle.numbering.proofs.Entries.{met_known, grows}
 use Rattle.numbering.proofs.table.meet.Statement.{statement}
 use Rattle.numbering.proofs.table.meet.Tie as tie
 
-returns : tie.Need-returns
+returns : tie.Need-returns-then-e-n
 returns c =
-    let a = c.before.before.before.before.before.before in
-    let x = a.args in
-    met_known (length x.key.now) x.w.now x.room x.n x.key.now a.requires _ c.before.find.ensures c.if1.true
+    let x = c.args in
+    met_known (length x.key.now) x.w.now x.room x.n x.key.now c.requires _ c.find-e.ensures c.if-e-n.true
 
 -- the key was not found: it is new
-absent : (c : tie.Else1) →
-    let x = c.before.before.before.before.before.before.args in
+absent : (c : tie.Else-e-n) →
+    let x = c.args in
     x.n ≤ index_of x.key.now (keys (length x.key.now) x.w.now x.room x.n)
-absent c = omega (arith, c.if1.false, c.before.find.ensures)
+absent c = omega (arith, c.if-e-n.false, c.find-e.ensures)
 
-returns-2 : tie.Need-returns-2
+returns-2 : tie.Need-returns-then-room-n
 returns-2 c =
-    let x = c.before.before.before.before.before.before.before.args in
+    let x = c.args in
     (refl, rw (grows (length x.key.now) x.w.now x.room x.n x.key.now (absent c.before)) (omega arith))
 
 enter-requires : tie.Need-enter-requires
 enter-requires c κs =
-    let i = c.before in
-    let a = i.before.before.before.before.before.before.before in
-    (a.requires, (i.if2.false, (i.before.before.before.before.slot.ensures, absent i.before)))
+    (c.requires, (c.if-room-n.false, (c.slot-s.ensures, absent c.before.before)))
 
 pub meet_spec : {M : Type 1} → statement M
 meet_spec =

@@ -11,9 +11,8 @@ use Rattle.numbering.proofs.table.prepare.Tie as tie
 returns : tie.Need-returns
 unfolding overwritten
 returns c =
-    let a = c.before.before.before.before.before in
-    let n : length (take (a.args.room + 1) a.args.w.now) ≡ a.args.room + 1 = length-take-le (a.args.room + 1) a.args.w.now a.requires in
-    rw (c.before.before.clear-u32.ensures, n, length-replicate)
+    let n : length (take (c.args.room + 1) c.args.w.now) ≡ c.args.room + 1 = length-take-le (c.args.room + 1) c.args.w.now c.requires in
+    rw (c.clear_u32.ensures, n, length-replicate)
 
 pub prepare_spec : {M : Type 1} → statement M
 prepare_spec =
@@ -21,7 +20,7 @@ prepare_spec =
     (tie.spec
     (λ c. search rules)
     (λ c. search rules)
-    (λ c. sym (length-take-le _ _ c.before.before.requires))
+    (λ c. sym (length-take-le _ _ c.requires))
     (λ c κs. search rules)
     (λ c. search rules)
     returns)

@@ -6,8 +6,7 @@ use Rattle.numbering.proofs.table.put.Tie as tie
 
 returns : tie.Need-returns
 returns c =
-    let a = c.before.before.before.before.before.before in
-    rw c.before.before.copy-u32.ensures (sets_rest a.args.at a.args.w.now a.args.key.now a.requires)
+    rw c.copy_u32.ensures (sets_rest c.args.at c.args.w.now c.args.key.now c.requires)
 
 pub put_spec : {M : Type 1} → statement M
 put_spec =

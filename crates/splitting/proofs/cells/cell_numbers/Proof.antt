@@ -59,43 +59,40 @@ inside : (a : tie.Start) → faces_at a.args.base ≤ length a.args.w.now
 inside a = full_part (faces_at a.args.base) a.args.w.now (omega (arith, a.requires.0.edge_table.fits))
 
 -- stores and calls kept the length of the numbers
-long : (c : tie.After-slice-known7) → length c.before.before.before.before.number-faces.new.1.1.1.1.1.0 ≡ length c.before.before.before.before.before.before.before.before.before.before.before.before.before.before.before.before.before.before.before.before.before.before.before.args.numbers.now
-long c = c.before.before.before.before.number-faces.auto.1.1.1.1.1.0 ∙ c.before.before.before.before.before.before.before.before.before.before.before.number-edges.auto.1.1.1.1.1.0 ∙ c.before.before.before.before.before.before.before.before.before.before.before.before.before.before.before.before.copy-u32.auto.1.0
+long : (c : tie.After-slice_known-7-1) → length c.number_faces-faces.new.numbers ≡ length c.args.numbers.now
+long c = c.number_faces-faces.auto.numbers ∙ c.number_edges-edges.auto.numbers ∙ c.copy_u32.auto.dst
 
-number-edges-requires : tie.Need-number-edges-requires
+number-edges-requires : tie.Need-number_edges-edges-requires
 number-edges-requires c κs =
-    let a = c.before.before.before.before.before.before.before.before.before.before.before in
-    let r = a.requires.0 in
-    (r.edge_table, (rw (edges_are a) r.edges_fit, (edges-within a, (omega (arith, a.requires.1.1.1.1.0), omega (arith, fits a, c.before.before.before.before.copy-u32.auto.1.0)))))
+    let r = c.requires.0 in
+    (r.edge_table, (rw (edges_are c.before.before.before.before.before.before.before.before.before.before.before) r.edges_fit, (edges-within c.before.before.before.before.before.before.before.before.before.before.before, (omega (arith, c.requires.1.1.1.1.0), omega (arith, fits c.before.before.before.before.before.before.before.before.before.before.before, c.copy_u32.auto.dst)))))
 
-number-faces-requires : tie.Need-number-faces-requires
+number-faces-requires : tie.Need-number_faces-faces-requires
 number-faces-requires c κs =
-    let a = c.before.before.before.before.before.before.before.before.before.before.before.before.before.before.before.before.before.before in
-    let r = a.requires.0 in
-    let e = c.before.before.before.before.before.before.number-edges in (
-      omega (arith, inside a, e.auto.0),
-      rw (e.ensures.1, faces_are a)
-          (r.face_table, (r.faces_fit, (faces-within a, (a.requires.1.1.1.1.0, omega (arith, fits a, e.auto.1.1.1.1.1.0, c.before.before.before.before.before.before.before.before.before.before.before.copy-u32.auto.1.0))))),
+    let r = c.requires.0 in
+    let e = c.number_edges-edges in (
+      omega (arith, inside c.before.before.before.before.before.before.before.before.before.before.before.before.before.before.before.before.before.before, e.auto.w),
+      rw (e.ensures.1, faces_are c.before.before.before.before.before.before.before.before.before.before.before.before.before.before.before.before.before.before)
+          (r.face_table, (r.faces_fit, (faces-within c.before.before.before.before.before.before.before.before.before.before.before.before.before.before.before.before.before.before, (c.requires.1.1.1.1.0, omega (arith, fits c.before.before.before.before.before.before.before.before.before.before.before.before.before.before.before.before.before.before, e.auto.numbers, c.copy_u32.auto.dst))))),
     )
 
 returns : tie.Need-returns
 unfolding cell_numbers
 returns c =
-    let a = c.before.before.before.before.before.before.before.before.before.before.before.before.before.before.before.before.before.before.before.before.before.before.before in
-    let x = a.args in
-    let e = rw (edges_are a) at c.before.before.before.before.before.before.before.before.before.before.before.number-edges.ensures in
-    let f = rw (faces_are a, e.1) at c.before.before.before.before.number-faces.ensures in
+    let x = c.args in
+    let e = rw (edges_are c.before.before.before.before.before.before.before.before.before.before.before.before.before.before.before.before.before.before.before.before.before.before.before) at c.number_edges-edges.ensures in
+    let f = rw (faces_are c.before.before.before.before.before.before.before.before.before.before.before.before.before.before.before.before.before.before.before.before.before.before.before, e.1) at c.number_faces-faces.ensures in
     let cell = x.cell.now in (
       record { edges = rw f.1 e.0.met; faces = f.0.met },
       λ es fs.
           let ds = numbers_in x.base.vertices (part_keys (edges_of x.kind) cell) (meet_all (edges_in x.base x.w.now x.n) (part_keys (edges_of x.kind) cell ++ es)) in
           let gs = numbers_in (x.base.vertices + x.base.edges) (part_keys (faces_of x.kind) cell) (meet_all (faces_in x.base x.w.now x.n) (part_keys (faces_of x.kind) cell ++ fs)) in
-          let m : length ds ≡ length x.edge_places.now / 2 = length-map (part_keys (edges_of x.kind) cell) _ ∙ length_part_keys (edges_of x.kind) cell ∙ sym (edges-in a) in
-          let n : length gs ≡ length x.face_places.now / 4 = length-map (part_keys (faces_of x.kind) cell) _ ∙ length_part_keys (faces_of x.kind) cell ∙ sym (faces-in a) in
+          let m : length ds ≡ length x.edge_places.now / 2 = length-map (part_keys (edges_of x.kind) cell) _ ∙ length_part_keys (edges_of x.kind) cell ∙ sym (edges-in c.before.before.before.before.before.before.before.before.before.before.before.before.before.before.before.before.before.before.before.before.before.before.before) in
+          let n : length gs ≡ length x.face_places.now / 4 = length-map (part_keys (faces_of x.kind) cell) _ ∙ length_part_keys (faces_of x.kind) cell ∙ sym (faces-in c.before.before.before.before.before.before.before.before.before.before.before.before.before.before.before.before.before.before.before.before.before.before.before) in
           let q = length cell + length x.edge_places.now / 2 in
           let r = q + length x.face_places.now / 4 in
-          let u : length (cell ++ (ds ++ (gs ++ (x.own ∷ [])))) ≤ length x.numbers.now = simp length-append (omega (arith, fits a)) in
-          let h = c.before.before.before.before.before.before.before.before.before.before.before.before.before.before.before.before.copy-u32.ensures ∙ sym (sets_front x.numbers.now cell (omega (arith, fits a))) in
+          let u : length (cell ++ (ds ++ (gs ++ (x.own ∷ [])))) ≤ length x.numbers.now = simp length-append (omega (arith, fits c.before.before.before.before.before.before.before.before.before.before.before.before.before.before.before.before.before.before.before.before.before.before.before)) in
+          let h = c.copy_u32.ensures ∙ sym (sets_front x.numbers.now cell (omega (arith, fits c.before.before.before.before.before.before.before.before.before.before.before.before.before.before.before.before.before.before.before.before.before.before.before))) in
           ap (λ (l : List ℕ). set l r x.own) (f.0.numbers_are fs ∙ ap (λ (l : List ℕ). sets l q gs) (e.0.numbers_are es ∙ ap (λ (l : List ℕ). sets l (length cell) ds) h))
           ∙ four-stores x.numbers.now cell ds gs x.own (length cell) q r refl (omega arith) (omega arith)
           ∙ sets_front x.numbers.now (cell ++ (ds ++ (gs ++ (x.own ∷ [])))) u,
@@ -110,7 +107,7 @@ cell_numbers_spec =
     (λ c. omega (arith, small c.before.before.before.before.before.before.before.before.before.before.before.before.before.before.before.before))
     number-faces-requires
     (λ c. omega (arith, small c.before.before.before.before.before.before.before.before.before.before.before.before.before.before.before.before.before.before.before.before.before.before.before))
-    (λ c. omega (arith, c.before.before.before.before.before.before.before.before.before.before.before.before.before.before.before.before.before.before.before.before.before.before.before.requires.1.1.1.1.1.0))
+    (λ c. omega (arith, c.requires.1.1.1.1.1.0))
     (λ c. omega (arith, small c.before.before.before.before.before.before.before.before.before.before.before.before.before.before.before.before.before.before.before.before.before.before.before))
     (λ c. omega (arith, fits c.before.before.before.before.before.before.before.before.before.before.before.before.before.before.before.before.before.before.before.before.before.before.before, long c))
     (λ c. search rules)

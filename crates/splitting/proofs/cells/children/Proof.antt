@@ -13,18 +13,16 @@ use Rattle.splitting.proofs.cells.children.Tie as tie
 
 load-requires : tie.Need-load-requires
 load-requires c κs =
-    let a = c.before.before.before.before in
-    let x = a.args in
+    let x = c.args in
     let n = x.at + length x.smallest.now - x.at in
-    (length-take-le n (drop x.at x.out.now) (omega (arith, a.requires.1, length-drop x.at x.out.now)) ∙ omega arith, a.requires.0)
+    (length-take-le n (drop x.at x.out.now) (omega (arith, c.requires.1, length-drop x.at x.out.now)) ∙ omega arith, c.requires.0)
 
 returns : tie.Need-returns
 returns c =
-    let a = c.before.before.before.before.before.before.before in
-    let x = a.args in
+    let x = c.args in
     let n = x.at + length x.smallest.now - x.at in
     let e : length (corners_at x.numbers.now x.smallest.now) ≡ n = length_read x.numbers.now x.smallest.now ∙ omega arith in
-    rw c.before.before.load.ensures (part_back x.at n x.out.now (corners_at x.numbers.now x.smallest.now) e (omega (arith, a.requires.1)))
+    rw c.load.ensures (part_back x.at n x.out.now (corners_at x.numbers.now x.smallest.now) e (omega (arith, c.requires.1)))
 
 pub children_spec : {M : Type 1} → statement M
 children_spec =

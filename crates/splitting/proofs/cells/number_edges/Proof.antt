@@ -14,18 +14,17 @@ use Rattle.splitting.proofs.cells.number_edges.Tie as tie
 inside : (a : tie.Start) → faces_at a.args.base ≤ length a.args.w.now
 inside a = full_part (faces_at a.args.base) a.args.w.now (omega (arith, a.requires.0.fits))
 
-number-parts-requires : tie.Need-number-parts-requires
+number-parts-requires : tie.Need-number_parts-requires
 number-parts-requires c κs =
-    let p = c.before.before.before.before.before.before.before.before.requires in
+    let p = c.requires in
     (p.0, (p.1.0, (refl, p.1.1)))
 
 returns : tie.Need-returns
 returns c =
-    let a = c.before.before.before.before.before.before.before.before.before.before.before.before.before.before in
-    let x = a.args in
-    let m = c.before.before.before.before.before.number-parts in
-    let back = first_back (faces_at x.base) x.w.now m.new.0 (inside a) m.auto.0 in
-    let kept = rest_kept (faces_at x.base) x.w.now m.new.0 (inside a) m.auto.0 in
+    let x = c.args in
+    let m = c.number_parts in
+    let back = first_back (faces_at x.base) x.w.now m.new.w (inside c.before.before.before.before.before.before.before.before.before.before.before.before.before.before) m.auto.w in
+    let kept = rest_kept (faces_at x.base) x.w.now m.new.w (inside c.before.before.before.before.before.before.before.before.before.before.before.before.before.before) m.auto.w in
     (rw back m.ensures, kept)
 
 pub number_edges_spec : {M : Type 1} → statement M

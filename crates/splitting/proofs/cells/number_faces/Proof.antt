@@ -6,19 +6,17 @@ use Rattle.splitting.proofs.Halves.{rest_whole, first_kept, rest_back}
 use Rattle.splitting.proofs.cells.number_faces.Statement.{statement}
 use Rattle.splitting.proofs.cells.number_faces.Tie as tie
 
-number-parts-requires : tie.Need-number-parts-requires
+number-parts-requires : tie.Need-number_parts-requires
 number-parts-requires c κs =
-    let a = c.before.before.before.before.before.before.before.before.before in
-    let p = a.requires.1 in
-    rw (rest_whole (faces_at a.args.base) a.args.w.now) (p.0, (p.1.0, (refl, p.1.1)))
+    let p = c.requires.1 in
+    rw (rest_whole (faces_at c.args.base) c.args.w.now) (p.0, (p.1.0, (refl, p.1.1)))
 
 returns : tie.Need-returns
 returns c =
-    let a = c.before.before.before.before.before.before.before.before.before.before.before.before.before.before.before in
-    let x = a.args in
-    let m = c.before.before.before.before.before.number-parts in
-    let back = rest_back (faces_at x.base) x.w.now m.new.0 a.requires.0 in
-    let kept = first_kept (faces_at x.base) x.w.now m.new.0 a.requires.0 in
+    let x = c.args in
+    let m = c.number_parts in
+    let back = rest_back (faces_at x.base) x.w.now m.new.w c.requires.0 in
+    let kept = first_kept (faces_at x.base) x.w.now m.new.w c.requires.0 in
     (rw back (rw (rest_whole (faces_at x.base) x.w.now) at m.ensures), kept)
 
 pub number_faces_spec : {M : Type 1} → statement M

@@ -4,11 +4,11 @@ use borrow.Author.Rules.{rules}
 use Rattle.splitting.proofs.cells.number_parts.Statement.{statement}
 use Rattle.splitting.proofs.cells.number_parts.Tie as tie
 
-returns : tie.Need-returns
-returns c = absurd (omega (arith, rw c.enum_told.given.1 at c.before.before.before.before.before.before.before.before.meet-parts.ensures, c.before.before.before.before.before.before.before.before.before.before.before.before.before.before.before.before.before.requires.1.0))
+returns : tie.Need-returns-in_default
+returns c = absurd (omega (arith, rw c.in_default.is at c.meet_parts-met.ensures, c.requires.1.0))
 
-returns-2 : tie.Need-returns-2
-returns-2 c = rw c.before.met.given.1 at c.before.before.before.before.before.before.before.before.before.meet-parts.ensures
+returns-2 : tie.Need-returns
+returns-2 c = rw c.in-Keys.is at c.meet_parts-met.ensures
 
 pub number_parts_spec : {M : Type 1} → statement M
 number_parts_spec =

@@ -14,34 +14,32 @@ use Rattle.splitting.proofs.Tables.{few_numbers, length_smallest, smallest_withi
 use Rattle.splitting.proofs.cells.split_cell.Statement.{statement}
 use Rattle.splitting.proofs.cells.split_cell.Tie as tie
 
-cell-numbers-requires : tie.Need-cell-numbers-requires
+cell-numbers-requires : tie.Need-cell_numbers-more-requires
 cell-numbers-requires c κs =
-    let p = c.before.before.before.before.before.before.before.before.before.requires in
+    let p = c.requires in
     (p.0, (p.1.0.edges_are, (p.1.0.faces_are, (p.1.1.0, (p.1.1.1.0, (p.1.1.1.1.0, p.1.1.1.1.1.1))))))
 
 children-requires : tie.Need-children-requires
 children-requires c κs =
-    let a = c.before.before.before.before.before.before.before.before.before.before.before.before.before.before.before.before in
-    let k = a.args.kind in
-    let long = c.before.before.before.before.before.before.cell-numbers.auto.1.1.1.1.1.1.1.1.0 in
-    rw a.requires.1.0.smallest_are
-    (λ i l. omega (arith, smallest_within k i l, few_numbers k, long, a.requires.1.1.1.1.1.1), omega (arith, length_smallest k, a.requires.1.1.1.1.1.0))
+    let k = c.args.kind in
+    let long = c.cell_numbers-more.auto.numbers in
+    rw c.requires.1.0.smallest_are
+    (λ i l. omega (arith, smallest_within k i l, few_numbers k, long, c.requires.1.1.1.1.1.1), omega (arith, length_smallest k, c.requires.1.1.1.1.1.0))
 
 returns : tie.Need-returns
 returns c =
-    let a = c.before.before.before.before.before.before.before.before.before.before.before.before.before.before.before.before.before.before.before in
-    let x = a.args in
-    let m = c.before.before.before.before.before.before.before.before.before.cell-numbers in
-    let stored = m.new.1.1.1.1.1.1.1.1.0 in (
+    let x = c.args in
+    let m = c.cell_numbers-more in
+    let stored = m.new.numbers in (
       m.ensures.0,
       λ es fs.
           let ns = numbers_at x.base x.w.now x.n x.kind x.cell.now x.own es fs in
-          c.before.before.children.ensures
-          ∙ ap (λ (l : List ℕ). sets x.out.now x.at (corners_at stored l)) a.requires.1.0.smallest_are
+          c.children.ensures
+          ∙ ap (λ (l : List ℕ). sets x.out.now x.at (corners_at stored l)) c.requires.1.0.smallest_are
           ∙ ap (sets x.out.now x.at)
           (children_listed x.kind stored
           ∙ ap (child_corners (kind_of x.kind)) (m.ensures.1 es fs)
-          ∙ front_picked x.kind _ ns (numbers_all x.kind _ _ _ _ x.own x.cell.now a.requires.1.1.0)),
+          ∙ front_picked x.kind _ ns (numbers_all x.kind _ _ _ _ x.own x.cell.now c.requires.1.1.0)),
     )
 
 pub split_cell_spec : {M : Type 1} → statement M

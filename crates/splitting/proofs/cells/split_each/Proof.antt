@@ -78,35 +78,32 @@ end {base} {w₀} {w} {n} {kind} {cells} {own} {old} {new} {known} {i} p l =
     let e : i ≡ length cells / corner_count kind = omega (arith, p.below) in
     (rw (take_all i (cells_in kind cells) (omega (arith, length_cut (corner_count kind) cells))) at p.met, rw e at p.stored)
 
-abbrev invariant-loop : tie.invariant-loop
+abbrev invariant-loop : tie.invariant-loop-i
 invariant-loop w₀ base kind edges faces smallest cells own out₀ count cell₀ numbers₀ known₀ i₀ w out cell numbers known i =
     (length w ≡ length w₀) × (length out ≡ length out₀) × (length cell ≡ 8) × (length numbers ≡ 27) × Walked base w₀ w known₀ kind cells own out₀ out known i
 
-abbrev decreases-loop : tie.decreases-loop
+abbrev decreases-loop : tie.decreases-loop-i
 decreases-loop w₀ base kind edges faces smallest cells own out₀ count cell₀ numbers₀ known₀ i₀ w out cell numbers known i = count - i
 
 -- the cell is one of the table's
-inside : (c : tie.In-loop invariant-loop decreases-loop) → let a = c.before.before.before.before.before.before.before.before.before in c.before.loop.i < length a.args.cells.now / corner_count a.args.kind
-inside c = rw c.before.before.corner-count.ensures at c.loop-test.true
+inside : (c : tie.In-loop-i invariant-loop decreases-loop) → c.loop-i.i < length c.args.cells.now / corner_count c.args.kind
+inside c = rw c.corner_count.ensures at c.loop-i-test.true
 
-split-entry-requires : tie.Need-split-entry-requires invariant-loop decreases-loop
+split-entry-requires : tie.Need-split_entry-known-requires invariant-loop decreases-loop
 split-entry-requires c κs =
-    let l = c.before.before.before.before.before in
-    let a = c.before.before.before.before.before.before.before.before.before.before.before.before.before in
-    let k = corner_count a.args.kind in
+    let k = corner_count c.args.kind in
     let u = inside c.before.before.before.before in
     let h = mul-le-mul_left k (mul-le-mul_left k u) in
-    (next_room l.loop.invariant.4 u a.requires.0, (a.requires.1.0, (u, (a.requires.1.1.0, (omega (arith, a.requires.1.1.1.0), (omega (arith, a.requires.1.1.1.1, l.loop.invariant.1), (omega (arith, l.loop.invariant.2), omega (arith, l.loop.invariant.3))))))))
+    (next_room c.loop-i.invariant.4 u c.requires.0, (c.requires.1.0, (u, (c.requires.1.1.0, (omega (arith, c.requires.1.1.1.0), (omega (arith, c.requires.1.1.1.1, c.loop-i.invariant.1), (omega (arith, c.loop-i.invariant.2), omega (arith, c.loop-i.invariant.3))))))))
 
-loop-again : tie.Need-loop-preserved invariant-loop decreases-loop
+loop-again : tie.Need-loop-i-preserved invariant-loop decreases-loop
 loop-again c =
-    let l = c.before.before.before.before.before.before.before.before.before.before.before.before in
-    let d = c.before.before.before.before.before.before.split-entry in (
-      d.auto.0 ∙ l.loop.invariant.0,
-      d.auto.1.1.1.1.1.1.1.1.1.1.1.1.0 ∙ l.loop.invariant.1,
-      d.auto.1.1.1.1.1.1.1.1.1.1.0 ∙ l.loop.invariant.2,
-      d.auto.1.1.1.1.1.1.1.1.1.1.1.0 ∙ l.loop.invariant.3,
-      turn l.loop.invariant.4 (inside c.before.before.before.before.before.before.before.before.before.before.before) d.ensures.0 d.ensures.1,
+    let d = c.split_entry-known in (
+      d.auto.w ∙ c.loop-i.invariant.0,
+      d.auto.out ∙ c.loop-i.invariant.1,
+      d.auto.cell ∙ c.loop-i.invariant.2,
+      d.auto.numbers ∙ c.loop-i.invariant.3,
+      turn c.loop-i.invariant.4 (inside c.before.before.before.before.before.before.before.before.before.before.before) d.ensures.0 d.ensures.1,
     )
 
 pub split_each_spec : {M : Type 1} → statement M
@@ -116,15 +113,15 @@ split_each_spec =
     invariant-loop
     decreases-loop
     (λ c κs. search rules)
-    (λ c. rw c.corner-count.ensures (some_corners c.before.before.before.before.before.before.before.args.kind))
-    (λ c. (refl, refl, refl, refl, start _ _ _ _ _ _ _ _ _ c.before.before.before.before.before.before.before.requires.0))
-    (λ c. omega (arith, inside c.before, c.before.before.before.before.before.before.before.before.before.before.requires.1.1.1.0))
-    (λ c. sym c.before.before.before.loop.invariant.2)
-    (λ c. sym c.before.before.before.before.loop.invariant.3)
+    (λ c. rw c.corner_count.ensures (some_corners c.args.kind))
+    (λ c. (refl, refl, refl, refl, start _ _ _ _ _ _ _ _ _ c.requires.0))
+    (λ c. omega (arith, inside c.before, c.requires.1.1.1.0))
+    (λ c. sym c.loop-i.invariant.2)
+    (λ c. sym c.loop-i.invariant.3)
     split-entry-requires
-    (λ c. omega (arith, inside c.before.before.before.before.before.before.before.before.before.before.before, c.before.before.before.before.before.before.before.before.before.before.before.before.before.before.before.before.before.before.before.before.requires.1.1.1.0))
-    (λ c. omega (arith, c.before.before.before.before.before.before.before.before.before.before.before.loop-test.true))
+    (λ c. omega (arith, inside c.before.before.before.before.before.before.before.before.before.before.before, c.requires.1.1.1.0))
+    (λ c. omega (arith, c.loop-i-test.true))
     loop-again
-    (λ c. c.before.loop.invariant.0)
-    (λ c. c.before.loop.invariant.1)
-    (λ c. end c.before.loop.invariant.4 (rw c.before.before.corner-count.ensures at c.loop-test.false)))
+    (λ c. c.loop-i.invariant.0)
+    (λ c. c.loop-i.invariant.1)
+    (λ c. end c.loop-i.invariant.4 (rw c.corner_count.ensures at c.loop-i-test.false)))

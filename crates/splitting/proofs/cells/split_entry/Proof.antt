@@ -19,31 +19,28 @@ unfolding overwritten
 front k old new e = take_at new (drop (length new) old) k e
 
 -- the cell lies in the table
-inside : (c : tie.After-corner-count) →
-    let a = c.before.before.before.before.before.before.before.before.before in
-    c.corner-count.result * a.args.i + c.corner-count.result ≤ length a.args.cells.now
+inside : (c : tie.After-corner_count-corners) →
+    c.corner_count-corners.result * c.args.i + c.corner_count-corners.result ≤ length c.args.cells.now
 inside c =
-    let a = c.before.before.before.before.before.before.before.before.before in
-    rw c.corner-count.ensures (entry_end (corner_count a.args.kind) a.args.i a.args.cells.now a.requires.1.1.0)
+    rw c.corner_count-corners.ensures (entry_end (corner_count c.args.kind) c.args.i c.args.cells.now c.requires.1.1.0)
 
 -- the lent array has room for its corners
 holds : (a : tie.Start) → corner_count a.args.kind ≤ length a.args.cell.now
 holds a = omega (arith, few_corners a.args.kind, a.requires.1.1.1.1.1.1.0)
 
 -- what is handed on is the cell
-cell_is : (c : tie.After-copy-u32) →
-    let x = c.before.before.before.before.before.before.before.before.before.before.before.before.args in
-    take (corner_count x.kind) c.copy-u32.new.1.0 ≡ entry_of x.kind x.cells.now x.i
+cell_is : (c : tie.After-copy_u32) →
+    let x = c.args in
+    take (corner_count x.kind) c.copy_u32.new.dst ≡ entry_of x.kind x.cells.now x.i
 cell_is c =
-    let a = c.before.before.before.before.before.before.before.before.before.before.before.before in
-    let x = a.args in
+    let x = c.args in
     let k = corner_count x.kind in
-    ap (take k) (rw c.before.before.before.corner-count.ensures at c.copy-u32.ensures)
-    ∙ front k _ (take (k * x.i + k - k * x.i) (drop (k * x.i) x.cells.now)) (entry_length k x.i x.cells.now a.requires.1.1.0)
-    ∙ entry_is k x.i x.cells.now a.requires.1.1.0
+    ap (take k) (rw c.corner_count-corners.ensures at c.copy_u32.ensures)
+    ∙ front k _ (take (k * x.i + k - k * x.i) (drop (k * x.i) x.cells.now)) (entry_length k x.i x.cells.now c.requires.1.1.0)
+    ∙ entry_is k x.i x.cells.now c.requires.1.1.0
 
-cell_length : (c : tie.After-copy-u32) → let x = c.before.before.before.before.before.before.before.before.before.before.before.before.args in length (take (corner_count x.kind) c.copy-u32.new.1.0) ≡ corner_count x.kind
-cell_length c = length-take-le _ _ (omega (arith, c.copy-u32.auto.1.0, holds c.before.before.before.before.before.before.before.before.before.before.before.before))
+cell_length : (c : tie.After-copy_u32) → let x = c.args in length (take (corner_count x.kind) c.copy_u32.new.dst) ≡ corner_count x.kind
+cell_length c = length-take-le _ _ (omega (arith, c.copy_u32.auto.dst, holds c.before.before.before.before.before.before.before.before.before.before.before.before))
 
 -- the children have their places
 room : (a : tie.Start) →
@@ -51,15 +48,13 @@ room : (a : tie.Start) →
     k * (k * a.args.i) + k * k ≤ length a.args.out.now
 room a = omega (arith, a.requires.1.1.1.1.1.0)
 
-split-cell-requires : tie.Need-split-cell-requires
+split-cell-requires : tie.Need-split_cell-requires
 split-cell-requires c κs =
-    let a = c.before.before.before.before.before.before.before.before.before.before.before.before.before.before.before.before.before.before in
-    let d = c.before.before.before.before.before.before in
-    rw d.before.before.before.corner-count.ensures
-    (rw (cell_is d) a.requires.0, (a.requires.1.0, (cell_length d, (a.requires.1.1.1.0, (a.requires.1.1.1.1.0, (room a, a.requires.1.1.1.1.1.1.1))))))
+    rw c.corner_count-corners.ensures
+    (rw (cell_is c.before.before.before.before.before) c.requires.0, (c.requires.1.0, (cell_length c.before.before.before.before.before, (c.requires.1.1.1.0, (c.requires.1.1.1.1.0, (room c.before.before.before.before.before.before.before.before.before.before.before.before.before.before.before.before.before, c.requires.1.1.1.1.1.1.1))))))
 
 returns : tie.Need-returns
-returns c = rw (cell_is c.before.before.before.before.before.before.before.before.before.before.before.before.before) at (rw c.before.before.before.before.before.before.before.before.before.before.before.before.before.before.before.before.corner-count.ensures at c.before.before.before.before.before.before.split-cell.ensures)
+returns c = rw (cell_is c.before.before.before.before.before.before.before.before.before.before.before.before) at (rw c.corner_count-corners.ensures at c.split_cell.ensures)
 
 pub split_entry_spec : {M : Type 1} → statement M
 split_entry_spec =
@@ -72,10 +67,10 @@ split_entry_spec =
     (λ c. search rules)
     (λ c. search rules)
     (λ c. inside c)
-    (λ c κs. let a = c.before.before.before.before.before.before.before.before.before.before.before in rw c.before.before.corner-count.ensures (omega (arith, entry_length (corner_count a.args.kind) a.args.i a.args.cells.now a.requires.1.1.0, holds a)))
-    (λ c. omega (arith, c.before.before.before.copy-u32.auto.1.0, c.before.before.before.before.before.before.corner-count.ensures, holds c.before.before.before.before.before.before.before.before.before.before.before.before.before.before.before))
-    (λ c. rw c.before.before.before.before.before.before.before.corner-count.ensures (sym (cell_length c.before.before.before.before)))
-    (λ c. let a = c.before.before.before.before.before.before.before.before.before.before.before.before.before.before.before.before.before.before in rw c.before.before.before.before.before.before.before.before.before.corner-count.ensures (omega (arith, room a, a.well-formed.1.1.1.1.1.1.1.1.1.1.1.1.0.0)))
+    (λ c κs. rw c.corner_count-corners.ensures (omega (arith, entry_length (corner_count c.args.kind) c.args.i c.args.cells.now c.requires.1.1.0, holds c.before.before.before.before.before.before.before.before.before.before.before)))
+    (λ c. omega (arith, c.copy_u32.auto.dst, c.corner_count-corners.ensures, holds c.before.before.before.before.before.before.before.before.before.before.before.before.before.before.before))
+    (λ c. rw c.corner_count-corners.ensures (sym (cell_length c.before.before.before)))
+    (λ c. rw c.corner_count-corners.ensures (omega (arith, room c.before.before.before.before.before.before.before.before.before.before.before.before.before.before.before.before.before, c.before.before.before.before.before.before.before.before.before.before.before.before.before.before.before.before.before.before.well-formed.1.1.1.1.1.1.1.1.1.1.1.1.0.0)))
     split-cell-requires
     (λ c. search rules)
     (λ c. search rules)

@@ -12,21 +12,21 @@ use Rattle.splitting.proofs.Tables.{few_numbers, length_smallest, few_smallest, 
 use Rattle.splitting.proofs.kinds.listed.Statement.{statement}
 use Rattle.splitting.proofs.kinds.listed.Tie as tie
 
-abbrev invariant-loop : tie.invariant-loop
+abbrev invariant-loop : tie.invariant-loop-i
 invariant-loop kind rows₀ corners count i₀ rows i = Storing 0 (smallest_listed kind) rows₀ rows i
 
-abbrev decreases-loop : tie.decreases-loop
+abbrev decreases-loop : tie.decreases-loop-i
 decreases-loop kind rows₀ corners count i₀ rows i = count - i
 
-count_is : (c : tie.After-corner-count invariant-loop decreases-loop) → c.corner-count.result * c.corner-count.result ≡ length (smallest_listed c.before.args.kind)
-count_is c = rw c.corner-count.ensures (sym (length_smallest c.before.args.kind))
+count_is : (c : tie.After-corner_count-corners invariant-loop decreases-loop) → c.corner_count-corners.result * c.corner_count-corners.result ≡ length (smallest_listed c.args.kind)
+count_is c = rw c.corner_count-corners.ensures (sym (length_smallest c.args.kind))
 
-inside : (c : tie.In-loop invariant-loop decreases-loop) → c.before.loop.i < length (smallest_listed c.before.before.before.args.kind)
-inside c = omega (arith, c.loop-test.true, count_is c.before.before)
+inside : (c : tie.In-loop-i invariant-loop decreases-loop) → c.loop-i.i < length (smallest_listed c.args.kind)
+inside c = omega (arith, c.loop-i-test.true, count_is c.before.before)
 
 -- the number that is stored
-number_is : (c : tie.After-smallest invariant-loop decreases-loop) → c.smallest.result ≡ get_or (smallest_listed c.before.before.before.before.args.kind) c.before.before.loop.i 0
-number_is c = (rw c.before.before.before.corner-count.ensures at c.smallest.ensures) ∙ smallest_place c.before.before.before.before.args.kind c.before.before.loop.i (inside c.before)
+number_is : (c : tie.After-smallest invariant-loop decreases-loop) → c.smallest.result ≡ get_or (smallest_listed c.args.kind) c.loop-i.i 0
+number_is c = (rw c.corner_count-corners.ensures at c.smallest.ensures) ∙ smallest_place c.args.kind c.loop-i.i (inside c.before)
 
 pub listed_spec : {M : Type 1} → statement M
 listed_spec =
@@ -35,14 +35,14 @@ listed_spec =
     invariant-loop
     decreases-loop
     (λ c κs. search rules)
-    (λ c. omega (arith, count_is c, few_smallest c.before.args.kind))
+    (λ c. omega (arith, count_is c, few_smallest c.args.kind))
     (λ c. store_start _ _ _)
-    (λ c. rw c.before.before.corner-count.ensures (some_corners c.before.before.before.args.kind))
-    (λ c. rw c.before.before.corner-count.ensures (some_corners c.before.before.before.args.kind))
-    (λ c κs. rw c.before.before.corner-count.ensures (let r = row_column c.before.before.before.args.kind c.before.loop.i (inside c) in (omega (arith, r), omega (arith, r))))
-    (λ c. let k = c.before.before.before.before.args.kind in omega (arith, number_is c, smallest_within k c.before.before.loop.i (inside c.before), few_numbers k))
-    (λ c. omega (arith, inside c.before, few_smallest c.before.before.before.before.args.kind, c.before.before.loop.invariant.long))
-    (λ c. omega (arith, inside c.before, few_smallest c.before.before.before.before.args.kind))
-    (λ c. omega (arith, c.before.loop-test.true))
-    (λ c. front_turn 0 (number_is c) c.before.before.loop.invariant (inside c.before))
-    (λ c. at_front c.before.loop.invariant (omega (arith, c.loop-test.false, count_is c.before.before)) (few_smallest c.before.before.before.args.kind)))
+    (λ c. rw c.corner_count-corners.ensures (some_corners c.args.kind))
+    (λ c. rw c.corner_count-corners.ensures (some_corners c.args.kind))
+    (λ c κs. rw c.corner_count-corners.ensures (let r = row_column c.args.kind c.loop-i.i (inside c) in (omega (arith, r), omega (arith, r))))
+    (λ c. let k = c.args.kind in omega (arith, number_is c, smallest_within k c.loop-i.i (inside c.before), few_numbers k))
+    (λ c. omega (arith, inside c.before, few_smallest c.args.kind, c.loop-i.invariant.long))
+    (λ c. omega (arith, inside c.before, few_smallest c.args.kind))
+    (λ c. omega (arith, c.loop-i-test.true))
+    (λ c. front_turn 0 (number_is c) c.loop-i.invariant (inside c.before))
+    (λ c. at_front c.loop-i.invariant (omega (arith, c.loop-i-test.false, count_is c.before.before)) (few_smallest c.args.kind)))

@@ -8,11 +8,11 @@ smallest_spec =
     tie.close
     (tie.spec
     (λ c. search rules)
-    (λ c κs. rw c.enum_told.given.1 at c.before.before.requires)
+    (λ c κs. rw c.in-Hex.is at c.requires)
     (λ c. search rules)
-    (λ c κs. rw c.enum-told2.given.1 at c.before.before.requires)
+    (λ c κs. rw c.in-Quad.is at c.requires)
     (λ c. search rules)
-    (λ c κs. rw c.enum-told3.given.1 at c.before.before.requires)
-    (λ c. rw c.before.enum_told.given.1 c.hex-smallest.ensures)
-    (λ c. rw c.before.enum-told2.given.1 c.quad-smallest.ensures)
-    (λ c. rw c.before.enum-told3.given.1 c.segment-smallest.ensures))
+    (λ c κs. rw c.in-Segment.is at c.requires)
+    (λ c. rw c.in-Hex.is c.hex_smallest.ensures)
+    (λ c. rw c.in-Quad.is c.quad_smallest.ensures)
+    (λ c. rw c.in-Segment.is c.segment_smallest.ensures))
