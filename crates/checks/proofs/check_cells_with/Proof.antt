@@ -71,7 +71,7 @@ returns-3 c =
     ) refl)
 
 abbrev faces-7 : tie.In-Matching → tie.After-check_faces-met
-faces-7 c = c.before.before.before.before.before
+faces-7 c = c.before.before.before
 
 abbrev start-7 : tie.In-Matching → tie.Start
 start-7 c = start-5 (before-6 (before-7 (faces-7 c)))
@@ -82,13 +82,13 @@ counted-7 : (c : tie.In-Matching) →
 counted-7 c =
     let f = faces-7 c in
     let a = (start-7 c).args in
-    faces_match a.hexes.now a.quads.now a.segments.now f.check-faces.result c.in-Matching.is f.check-faces.ensures
+    faces_match a.hexes.now a.quads.now a.segments.now f.check_faces-met.result c.in-Matching.is f.check_faces-met.ensures
 
 has-isolated-vertex-requires : tie.Need-has_isolated_vertex-requires
 has-isolated-vertex-requires c κs =
     let f = faces-7 c.before in
     let s = start-7 c.before in
-    (omega (arith, f.check-faces.kept.0, (before-7 f).has_duplicate_cell.auto.words, s.pre.0), (passed s).whole)
+    (omega (arith, f.check_faces-met.auto.words, (before-7 f).has_duplicate_cell.auto.words, s.requires.0), (passed s).whole)
 
 -- ---- 8
 

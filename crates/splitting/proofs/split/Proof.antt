@@ -48,7 +48,7 @@ returns c =
         stored_quads r p.new.words h.new.w h.result h.ensures.0 _ _ q.ensures.1 c.requires.1.quads_fit,
         (
           stored_segments r p.new.words h.new.w h.result h.ensures.0 q.new.w q.result q.ensures.0 _ _ s.ensures.1 c.requires.1.segments_fit,
-          c.copy_u32.ensures ∙ ap (overwritten x.out-points.now) (sym (points_split m r.sound)),
+          c.copy_u32.ensures ∙ ap (overwritten x.out_points.now) (sym (points_split m r.sound)),
         ),
       ),
     )

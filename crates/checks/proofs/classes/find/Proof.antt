@@ -20,7 +20,7 @@ start l = l.before.before.before.before.before.before.before
 sweep-all-requires : tie.Need-sweep_all-found-requires invariant-loop decreases-loop
 sweep-all-requires c κs =
     let s = start c.before.before.before in
-    rw (c.loop-classes.invariant.0, c.loop-classes.invariant.1) (omega (arith, c.if-w-eq0.false), (s.pre.0, (c.loop-classes.invariant.2, c.loop-classes-test.true)))
+    rw (c.loop-classes.invariant.0, c.loop-classes.invariant.1) (omega (arith, c.if-w-eq0.false), (s.requires.0, (c.loop-classes.invariant.2, c.loop-classes-test.true)))
 
 -- the loop that a sweep is in
 abbrev loop-of : tie.After-sweep_all-found invariant-loop decreases-loop → tie.At-loop-classes invariant-loop decreases-loop
@@ -32,7 +32,7 @@ returns-2 c = rw (loop-of c.before.before.before.before.before).loop-classes.inv
 loop-again : tie.Need-loop-classes-preserved invariant-loop decreases-loop
 loop-again c =
     let l = loop-of c.before.before.before.before.before in
-    (c.sweep_all-found.auto.w ∙ l.loop.inv.0, c.sweep_all-found.auto.key ∙ l.loop.inv.1, omega (arith, l.loop.inv.2))
+    (c.sweep_all-found.auto.w ∙ l.loop-classes.invariant.0, c.sweep_all-found.auto.key ∙ l.loop-classes.invariant.1, omega (arith, l.loop-classes.invariant.2))
 
 few : (c : tie.In-Unknown invariant-loop decreases-loop) → (loop-of c.before.before.before.before.before).loop-classes.classes ≤ 1024
 few c = c.loop-classes-test.true

@@ -28,7 +28,7 @@ part-at-requires : tie.Need-part_at-part-requires
 part-at-requires c κs = ((lit< tt, lit< tt), rw c.in-Edges.is at c.requires.1)
 
 pair : (c : tie.After-part_at-part) → length (take 2 c.part_at-part.result) ≡ 2
-pair c = length-take-le 2 c.part_at-part.result (omega (arith, c.part_at-part.type-inv))
+pair c = length-take-le 2 c.part_at-part.result (omega (arith, c.part_at-part.type_inv))
 
 returns : tie.Need-returns-in-Edges
 returns c =
@@ -47,7 +47,7 @@ part-at-requires-2 c κs = ((lit< tt, lit< tt), rw c.in-Faces.is at c.requires.1
 returns-2 : tie.Need-returns-in-Faces
 returns-2 c =
     let a = c.args in
-    let l : length c.part_at-part-in-Faces.result ≡ 4 = omega (arith, c.part_at-part-in-Faces.type-inv) in
+    let l : length c.part_at-part-in-Faces.result ≡ 4 = omega (arith, c.part_at-part-in-Faces.type_inv) in
     rw c.in-Faces.is
     (c.copy_u32-in-Faces.ensures
     ∙ whole a.corners.now c.part_at-part-in-Faces.result (l ∙ sym (four c.before.before.before.before.before.before))

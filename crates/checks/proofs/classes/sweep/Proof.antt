@@ -41,12 +41,12 @@ prepare-requires c κs =
 read-requires : tie.Need-read-requires invariant-loop decreases-loop
 read-requires c κs =
     let s = start c.before.before in
-    rw c.loop-i.invariant.1 (s.pre.1.0, listed c.before)
+    rw c.loop-i.invariant.1 (s.requires.1.0, listed c.before)
 
 meet-in-class-requires : tie.Need-meet_in_class-met-requires invariant-loop decreases-loop
 meet-in-class-requires c κs =
     let s = start c.before.before.before.before.before.before.before in
-    rw (c.read.auto.corners ∙ c.loop-i.invariant.1) (s.pre.1.0, (s.pre.1.1, sweep_tagged c.loop-i.invariant.2))
+    rw (c.read.auto.corners ∙ c.loop-i.invariant.1) (s.requires.1.0, (s.requires.1.1, sweep_tagged c.loop-i.invariant.2))
 
 -- the loop that a meeting is in
 abbrev read_of : tie.After-meet_in_class-met invariant-loop decreases-loop → tie.After-read invariant-loop decreases-loop
@@ -63,17 +63,17 @@ returns : tie.Need-returns-in-Differs invariant-loop decreases-loop
 returns c =
     let r = read_of c.before.before.before.before.before in
     let l = loop-of c.before.before.before.before.before in
-    sweep_differs l.loop.inv.2 (listed r.before.before)
-    (rw l.loop.inv.1 at r.read.ensures) (r.read.kept.1.1.1.1.1.0 ∙ l.loop.inv.1) c.in-Differs.is c.meet_in_class-met.ensures
+    sweep_differs l.loop-i.invariant.2 (listed r.before.before)
+    (rw l.loop-i.invariant.1 at r.read.ensures) (r.read.auto.corners ∙ l.loop-i.invariant.1) c.in-Differs.is c.meet_in_class-met.ensures
 
 loop-again : tie.Need-loop-i-preserved invariant-loop decreases-loop
 loop-again c =
     let r = read_of c.before.before.before.before.before in
     let l = loop-of c.before.before.before.before.before in (
-      c.meet_in_class-met.auto.w ∙ l.loop.inv.0,
-      c.meet_in_class-met.auto.corners ∙ r.read.kept.1.1.1.1.1.0 ∙ l.loop.inv.1,
-      sweep_turn l.loop.inv.2 (listed r.before.before)
-          (rw l.loop.inv.1 at r.read.ensures) (r.read.kept.1.1.1.1.1.0 ∙ l.loop.inv.1) c.in-Agrees.is c.meet_in_class-met.ensures,
+      c.meet_in_class-met.auto.w ∙ l.loop-i.invariant.0,
+      c.meet_in_class-met.auto.corners ∙ r.read.auto.corners ∙ l.loop-i.invariant.1,
+      sweep_turn l.loop-i.invariant.2 (listed r.before.before)
+          (rw l.loop-i.invariant.1 at r.read.ensures) (r.read.auto.corners ∙ l.loop-i.invariant.1) c.in-Agrees.is c.meet_in_class-met.ensures,
     )
 
 same_key : (m : tie.After-meet_in_class-met invariant-loop decreases-loop) → length m.meet_in_class-met.new.corners ≡ length (start (loop-of m)).args.key.now
@@ -82,8 +82,8 @@ same_key m = m.meet_in_class-met.auto.corners ∙ (read_of m).read.auto.corners 
 -- there are more to look at
 more : (c : tie.In-Agrees invariant-loop decreases-loop) →
     let l = loop-of c.before.before.before.before.before in
-    l.loop.i < l.before.before.before.before.before.count_of.result
-more c = (read_of c.before.before.before.before.before).loop-i-test.taken
+    l.loop-i.i < l.count_of-count.result
+more c = (read_of c.before.before.before.before.before).loop-i-test.true
 
 pub sweep_spec : {M : Type 1} → statement M
 sweep_spec =

@@ -29,7 +29,7 @@ ps s = walked s.args.of (length s.args.key.now) s.args.hexes.now s.args.quads.no
 sweep-requires : tie.Need-sweep-found-requires invariant-loop decreases-loop
 sweep-requires c κs =
     let s = start c.before.before.before in
-    rw (c.loop-class.invariant.0, c.loop-class.invariant.1) (s.pre.0, (s.pre.1.0, s.pre.1.1.1))
+    rw (c.loop-class.invariant.0, c.loop-class.invariant.1) (s.requires.0, (s.requires.1.0, s.requires.1.1.1))
 
 -- the loop that a sweep is in
 abbrev loop-of : tie.After-sweep-found invariant-loop decreases-loop → tie.At-loop-class invariant-loop decreases-loop
@@ -38,27 +38,27 @@ loop-of m = m.before.before.before.before
 returns : tie.Need-returns-in_default invariant-loop decreases-loop
 returns c =
     let l = loop-of c.before.before.before.before.before in
-    found_all (start l).args.of (start l).args.classes l.loop.class (ps (start l)) c.sweep-found.result c.in_default.in_default-own.keys2
-    (rw l.loop.inv.1 at c.sweep-found.ensures)
+    found_all (start l).args.of (start l).args.classes l.loop-class.class (ps (start l)) c.sweep-found.result c.in_default.in_default-own.keys2
+    (rw l.loop-class.invariant.1 at c.sweep-found.ensures)
 
 -- one class more
 turn : (c : tie.In-Passes invariant-loop decreases-loop) →
     let l = loop-of c.before.before.before.before.before in
-    Totalling (start l).args.of (start l).args.classes (ps (start l)) (l.loop.n + c.in-Passes.more) (l.loop.class + 1)
+    Totalling (start l).args.of (start l).args.classes (ps (start l)) (l.loop-class.n + c.in-Passes.more) (l.loop-class.class + 1)
 turn c =
     let l = loop-of c.before.before.before.before.before in
-    total_turn l.loop.inv.2 c.loop-class-test.true c.sweep-found.result c.in-Passes.is
-    (rw l.loop.inv.1 at c.sweep-found.ensures)
+    total_turn l.loop-class.invariant.2 c.loop-class-test.true c.sweep-found.result c.in-Passes.is
+    (rw l.loop-class.invariant.1 at c.sweep-found.ensures)
 
 fits : (s : tie.Start invariant-loop decreases-loop) → length (ps s) < 2 ^ 64
 fits s =
     walked_fits s.args.of (length s.args.key.now) s.args.hexes.now s.args.quads.now s.args.segments.now
-    s.well-formed.1.1.0.1 s.well-formed.1.1.1.0.1 s.well-formed.1.1.1.1.0.1
+    s.well_formed.1.1.0.1 s.well_formed.1.1.1.0.1 s.well_formed.1.1.1.1.0.1
 
 loop-again : tie.Need-loop-class-preserved invariant-loop decreases-loop
 loop-again c =
     let l = loop-of c.before.before.before.before.before in
-    (c.sweep-found.auto.w ∙ l.loop.inv.0, c.sweep-found.auto.key ∙ l.loop.inv.1, turn c)
+    (c.sweep-found.auto.w ∙ l.loop-class.invariant.0, c.sweep-found.auto.key ∙ l.loop-class.invariant.1, turn c)
 
 pub sweep_all_spec : {M : Type 1} → statement M
 sweep_all_spec =

@@ -45,7 +45,7 @@ mark_spec =
     (λ c. omega arith)
     (λ c. omega arith)
     (λ c. omega (arith, c.shared_slice_known-1.given c.loop-i.i))
-    (λ c. omega (arith, inside c, c.loop-i.invariant.kept, c.before.before.before.before.before.well-formed.0.1))
+    (λ c. omega (arith, inside c, c.loop-i.invariant.kept, c.well_formed.0.1))
     (λ c. omega (arith, inside c))
     (λ c. omega arith)
     (λ c. omega arith)

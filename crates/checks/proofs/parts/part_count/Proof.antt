@@ -21,7 +21,7 @@ returns c =
 fits : (c : tie.After-in_segments) → let a = c.args in length (met_in a.d a.hexes.now a.quads.now a.segments.now) < 2 ^ 64
 fits c =
     let a = c.args in
-    met_fits a.d c.requires.0 a.hexes.now a.quads.now a.segments.now c.requires.1 c.before.before.before.before.before.before.well-formed.1.0.1 c.before.before.before.before.before.before.well-formed.1.1.0.1 c.before.before.before.before.before.before.well-formed.1.1.1.0.1
+    met_fits a.d c.requires.0 a.hexes.now a.quads.now a.segments.now c.requires.1 c.well_formed.1.0.1 c.well_formed.1.1.0.1 c.well_formed.1.1.1.0.1
 
 pub part_count_spec : {M : Type 1} → statement M
 part_count_spec =

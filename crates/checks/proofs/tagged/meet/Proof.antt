@@ -18,7 +18,7 @@ size s = length-take-le (words_for (length s.args.key.now) s.args.room) s.args.w
 
 -- where the call began
 abbrev start : tie.In-At → tie.Start
-start c = c.before.before.before.before.before.before.before.before.before
+start c = c.before.before.before.before.before.before.before
 
 met : (c : tie.In-At) →
     let a = (start c).args in
@@ -37,7 +37,7 @@ at : (c : tie.In-At) →
     let a = (start c).args in
     let n = words_for (length a.key.now) a.room in
     n + c.in-At.number < length (c.meet-met.new.w ++ drop n a.w.now)
-at c = let s = start c in number_within s.args.key.now s.args.tag s.pre (met c) (kept c)
+at c = let s = start c in number_within s.args.key.now s.args.tag s.requires (met c) (kept c)
 
 within : (c : tie.In-At) → let a = (start c).args in words_for (length a.key.now) a.room + c.in-At.number < length a.w.now
 within c = omega (arith, (met c).known, (met c).table.used, (start c).requires.fits)
@@ -45,17 +45,17 @@ within c = omega (arith, (met c).known, (met c).table.used, (start c).requires.f
 returns-2 : tie.Need-returns-then-n-count
 returns-2 c =
     let s = start c.before in
-    agreed_new s.args.key.now s.args.tag s.pre (met c.before) (kept c.before) c.if-n-count.true
+    agreed_new s.args.key.now s.args.tag s.requires (met c.before) (kept c.before) c.if-n-count.true
 
 returns-3 : tie.Need-returns-then-w-at
 returns-3 c =
     let s = start c.before.before.before in
-    agreed_known s.args.key.now s.args.tag s.pre (met c.before.before.before) (kept c.before.before.before) c.if-w-at.true
+    agreed_known s.args.key.now s.args.tag s.requires (met c.before.before.before) (kept c.before.before.before) c.if-w-at.true
 
 returns-4 : tie.Need-returns
 returns-4 c =
     let s = start c.before.before.before in
-    differed s.args.key.now s.args.tag s.pre (met c.before.before.before) (kept c.before.before.before) c.if-n-count.false c.if-w-at.false
+    differed s.args.key.now s.args.tag s.requires (met c.before.before.before) (kept c.before.before.before) c.if-n-count.false c.if-w-at.false
 
 pub meet_spec : {M : Type 1} → statement M
 meet_spec =

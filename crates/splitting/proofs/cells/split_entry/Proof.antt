@@ -70,7 +70,7 @@ split_entry_spec =
     (λ c κs. rw c.corner_count-corners.ensures (omega (arith, entry_length (corner_count c.args.kind) c.args.i c.args.cells.now c.requires.1.1.0, holds c.before.before.before.before.before.before.before.before.before.before.before)))
     (λ c. omega (arith, c.copy_u32.auto.dst, c.corner_count-corners.ensures, holds c.before.before.before.before.before.before.before.before.before.before.before.before.before.before.before))
     (λ c. rw c.corner_count-corners.ensures (sym (cell_length c.before.before.before)))
-    (λ c. rw c.corner_count-corners.ensures (omega (arith, room c.before.before.before.before.before.before.before.before.before.before.before.before.before.before.before.before.before, c.before.before.before.before.before.before.before.before.before.before.before.before.before.before.before.before.before.before.well-formed.1.1.1.1.1.1.1.1.1.1.1.1.0.0)))
+    (λ c. rw c.corner_count-corners.ensures (omega (arith, room c.before.before.before.before.before.before.before.before.before.before.before.before.before.before.before.before.before, c.well_formed.1.1.1.1.1.1.1.1.1.1.1.1.0.0)))
     split-cell-requires
     (λ c. search rules)
     (λ c. search rules)
