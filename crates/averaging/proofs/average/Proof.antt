@@ -14,89 +14,68 @@ use Rattle.averaging.proofs.Round.{counted_tally, complete, written, overwrites}
 use Rattle.averaging.proofs.average.Statement.{statement}
 use Rattle.averaging.proofs.average.Tie as tie
 
-count-table-requires : tie.Need-count-table-requires
+count-table-requires : tie.Need-count_table-requires
 count-table-requires c κs =
-    let reset = c.before.before.before.before.before.before.before.before in
-    let r = reset.before.before.before.before.before.before.before.before.before.before.before.before.before.requires in
-    let g₀ = start r _ (light_all r) refl refl reset.reset.ensures in
-    takes r point _ c.before.before.before.point-weights.ensures g₀
+    let r = c.requires in
+    let g₀ = start r _ (light_all r) refl refl c.reset.ensures in
+    takes r point _ c.point_weights-point.ensures g₀
 
-count-table-requires-2 : tie.Need-count-table-requires-2
+count-table-requires-2 : tie.Need-count_table-requires-2
 count-table-requires-2 c κs =
-    let points = c.before.before.before.before.before.before.before.before in
-    let reset = points.before.before.before.before.before.before.before.before.before in
-    let r = reset.before.before.before.before.before.before.before.before.before.before.before.before.before.requires in
-    let g₀ = start r _ (light_all r) refl refl reset.reset.ensures in
-    let g₁ = onward r _ points.count-table.ensures g₀ in
-    takes r segment _ c.before.before.before.segment-weights.ensures g₁
+    let r = c.requires in
+    let g₀ = start r _ (light_all r) refl refl c.reset.ensures in
+    let g₁ = onward r _ c.count_table.ensures g₀ in
+    takes r segment _ c.segment_weights-segment.ensures g₁
 
-count-table-requires-3 : tie.Need-count-table-requires-3
+count-table-requires-3 : tie.Need-count_table-requires-3
 count-table-requires-3 c κs =
-    let segments = c.before.before.before.before.before.before.before.before in
-    let points = segments.before.before.before.before.before.before.before.before.before in
-    let reset = points.before.before.before.before.before.before.before.before.before in
-    let r = reset.before.before.before.before.before.before.before.before.before.before.before.before.before.requires in
-    let g₀ = start r _ (light_all r) refl refl reset.reset.ensures in
-    let g₁ = onward r _ points.count-table.ensures g₀ in
-    let g₂ = onward r _ segments.count-table2.ensures g₁ in
-    takes r quad _ c.before.before.before.quad-weights.ensures g₂
+    let r = c.requires in
+    let g₀ = start r _ (light_all r) refl refl c.reset.ensures in
+    let g₁ = onward r _ c.count_table.ensures g₀ in
+    let g₂ = onward r _ c.count_table-2.ensures g₁ in
+    takes r quad _ c.quad_weights-quad.ensures g₂
 
-count-table-requires-4 : tie.Need-count-table-requires-4
+count-table-requires-4 : tie.Need-count_table-requires-4
 count-table-requires-4 c κs =
-    let quads = c.before.before.before.before.before.before.before.before in
-    let segments = quads.before.before.before.before.before.before.before.before.before in
-    let points = segments.before.before.before.before.before.before.before.before.before in
-    let reset = points.before.before.before.before.before.before.before.before.before in
-    let r = reset.before.before.before.before.before.before.before.before.before.before.before.before.before.requires in
-    let g₀ = start r _ (light_all r) refl refl reset.reset.ensures in
-    let g₁ = onward r _ points.count-table.ensures g₀ in
-    let g₂ = onward r _ segments.count-table2.ensures g₁ in
-    let g₃ = onward r _ quads.count-table3.ensures g₂ in
-    takes r hex _ c.before.before.before.hex-weights.ensures g₃
+    let r = c.requires in
+    let g₀ = start r _ (light_all r) refl refl c.reset.ensures in
+    let g₁ = onward r _ c.count_table.ensures g₀ in
+    let g₂ = onward r _ c.count_table-2.ensures g₁ in
+    let g₃ = onward r _ c.count_table-3.ensures g₂ in
+    takes r hex _ c.hex_weights-hex.ensures g₃
 
 finish-requires : tie.Need-finish-requires
 finish-requires c κs =
-    let hexes = c.before.before.before.before.before.before.before in
-    let quads = hexes.before.before.before.before.before.before.before.before.before in
-    let segments = quads.before.before.before.before.before.before.before.before.before in
-    let points = segments.before.before.before.before.before.before.before.before.before in
-    let reset = points.before.before.before.before.before.before.before.before.before in
-    let r = reset.before.before.before.before.before.before.before.before.before.before.before.before.before.requires in
-    let g₀ = start r _ (light_all r) refl refl reset.reset.ensures in
-    let g₁ = onward r _ points.count-table.ensures g₀ in
-    let g₂ = onward r _ segments.count-table2.ensures g₁ in
-    let g₃ = onward r _ quads.count-table3.ensures g₂ in
-    let g₄ = onward r _ hexes.count-table4.ensures g₃ in
+    let r = c.requires in
+    let g₀ = start r _ (light_all r) refl refl c.reset.ensures in
+    let g₁ = onward r _ c.count_table.ensures g₀ in
+    let g₂ = onward r _ c.count_table-2.ensures g₁ in
+    let g₃ = onward r _ c.count_table-3.ensures g₂ in
+    let g₄ = onward r _ c.count_table-4.ensures g₃ in
     let t =
-    counted_tally r reset.reset.ensures
-    (by_kind r point points.before.before.before.before.point-weights.ensures points.count-table.ensures)
-    (by_kind r segment segments.before.before.before.before.segment-weights.ensures segments.count-table2.ensures)
-    (by_kind r quad quads.before.before.before.before.quad-weights.ensures quads.count-table3.ensures)
-    (by_kind r hex hexes.before.before.before.before.hex-weights.ensures hexes.count-table4.ensures) in
+    counted_tally r c.reset.ensures
+    (by_kind r point c.point_weights-point.ensures c.count_table.ensures)
+    (by_kind r segment c.segment_weights-segment.ensures c.count_table-2.ensures)
+    (by_kind r quad c.quad_weights-quad.ensures c.count_table-3.ensures)
+    (by_kind r hex c.hex_weights-hex.ensures c.count_table-4.ensures) in
     ((omega (arith, r.words_fit, g₄.words_kept), omega (arith, r.longs_fit, g₄.longs_kept), r.out_fits), λ a f h l. subst Complete (sym (t a f h l)) (complete r a f h l))
 
 returns : tie.Need-returns
 returns c =
-    let finish = c.before in
-    let hexes = finish.before.before.before.before.before.before.before.before in
-    let quads = hexes.before.before.before.before.before.before.before.before.before in
-    let segments = quads.before.before.before.before.before.before.before.before.before in
-    let points = segments.before.before.before.before.before.before.before.before.before in
-    let reset = points.before.before.before.before.before.before.before.before.before in
-    let r = reset.before.before.before.before.before.before.before.before.before.before.before.before.before.requires in
-    let g₀ = start r _ (light_all r) refl refl reset.reset.ensures in
-    let g₁ = onward r _ points.count-table.ensures g₀ in
-    let g₂ = onward r _ segments.count-table2.ensures g₁ in
-    let g₃ = onward r _ quads.count-table3.ensures g₂ in
-    let g₄ = onward r _ hexes.count-table4.ensures g₃ in
+    let r = c.requires in
+    let g₀ = start r _ (light_all r) refl refl c.reset.ensures in
+    let g₁ = onward r _ c.count_table.ensures g₀ in
+    let g₂ = onward r _ c.count_table-2.ensures g₁ in
+    let g₃ = onward r _ c.count_table-3.ensures g₂ in
+    let g₄ = onward r _ c.count_table-4.ensures g₃ in
     let t =
-    counted_tally r reset.reset.ensures
-    (by_kind r point points.before.before.before.before.point-weights.ensures points.count-table.ensures)
-    (by_kind r segment segments.before.before.before.before.segment-weights.ensures segments.count-table2.ensures)
-    (by_kind r quad quads.before.before.before.before.quad-weights.ensures quads.count-table3.ensures)
-    (by_kind r hex hexes.before.before.before.before.hex-weights.ensures hexes.count-table4.ensures) in
-    let e = finish.finish.ensures in
-    let after : ℕ → ℕ → ℤ = λ a f. get_or finish.finish.new.1.1.1.0 (3 * f + a) (pos 0) in
+    counted_tally r c.reset.ensures
+    (by_kind r point c.point_weights-point.ensures c.count_table.ensures)
+    (by_kind r segment c.segment_weights-segment.ensures c.count_table-2.ensures)
+    (by_kind r quad c.quad_weights-quad.ensures c.count_table-3.ensures)
+    (by_kind r hex c.hex_weights-hex.ensures c.count_table-4.ensures) in
+    let e = c.finish.ensures in
+    let after : ℕ → ℕ → ℤ = λ a f. get_or c.finish.new.out (3 * f + a) (pos 0) in
     ((g₄.words_kept, g₄.longs_kept), overwrites r _ _ (omega arith) e.0 (λ a f h l. written r a f h l (after a f) (subst (λ (t : Tally). MeanOf t (after a f)) (t a f h l) (e.1.0 a f h l))) e.1.1)
 
 pub average_spec : {M : Type 1} → statement M

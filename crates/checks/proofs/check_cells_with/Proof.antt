@@ -44,7 +44,7 @@ passes-6 c = sym c.has_duplicate_cell.ensures ∙ c.if-has_duplicate_cell.false
 returns-2 : tie.Need-returns-then-has_duplicate_cell
 returns-2 c =
     let s = start-5 c.before.before.before.before.before.before in
-    refused_is (mesh_of s) c.refused-then-has_duplicate_cell.result c.refused-then-has_duplicate_cell.ensures (λ c.before.before.before.before.before.before. omega arith)
+    refused_is (mesh_of s) c.refused-then-has_duplicate_cell.result c.refused-then-has_duplicate_cell.ensures (λ e. omega arith)
     (rw (cells_decide (mesh_of s) (passed s) 0, passes-5 c.before.before.before.before.before.before, ← c.has_duplicate_cell.ensures, c.if-has_duplicate_cell.true) refl)
 
 check-faces-requires : tie.Need-check_faces-met-requires

@@ -6,16 +6,16 @@ use Rattle.averaging.proofs.Biased.{biased_fits, biased_positive, biased_is, bia
 use Rattle.averaging.proofs.coordinates.bias.Statement.{statement}
 use Rattle.averaging.proofs.coordinates.bias.Tie as tie
 
-cast-result : tie.Need-overflow-cast-result
+cast-result : tie.Need-overflow_cast-result
 cast-result c = let f = c.ranges.x in simp to_z-of_z (range_i64 {z = c.args.x} c.requires)
 
-add-result : tie.Need-overflow-add-result
+add-result : tie.Need-overflow_add-result
 add-result c =
     let f = c.ranges.x in
     let w = range_i64 {z = c.args.x} c.requires in
     simp to_z-of_z (biased_fits c.args.x c.requires)
 
-cast-result-2 : tie.Need-overflow-cast-result-2
+cast-result-2 : tie.Need-overflow_cast-result-2
 cast-result-2 c =
     let f = c.ranges.x in
     let w = range_i64 {z = c.args.x} c.requires in

@@ -9,10 +9,10 @@ use Rattle.averaging.specs.Pass.{biased}
 use Rattle.averaging.proofs.coordinates.biased_at.Statement.{statement}
 use Rattle.averaging.proofs.coordinates.biased_at.Tie as tie
 
-mul-bias : tie.Need-overflow-mul-bias
+mul-bias : tie.Need-offset_bounds-xs-p
 mul-bias c = search rules
 
-shared-slice-copy-out-bias : tie.Need-shared-slice-copy-out-bias
+shared-slice-copy-out-bias : tie.Need-bounds-xs-p
 shared-slice-copy-out-bias c = search rules
 
 bias-requires : tie.Need-bias-requires
@@ -21,8 +21,7 @@ bias-requires c κs = search rules
 returns : tie.Need-returns
 unfolding biased
 returns c =
-    let s = c.before.before in
-    let f = range_i32 {z = get_or s.args.xs.now s.args.p (pos 0)} s.requires.1 in
+    let f = range_i32 {z = get_or c.args.xs.now c.args.p (pos 0)} c.requires.1 in
     (ap nat_abs (simp to_z-of_z at c.bias.ensures.0), c.bias.ensures.1)
 
 pub biased_at_spec : {M : Type 1} → statement M

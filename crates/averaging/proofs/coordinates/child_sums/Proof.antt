@@ -9,9 +9,9 @@ use Rattle.averaging.proofs.coordinates.child_sums.Tie as tie
 
 returns : tie.Need-returns
 returns c =
-    let a = c.before.before.before.args in
+    let a = c.args in
     on_axes 0 (λ (axis r : ℕ). (r ≡ weighed a.n a.row.now (gathered_at a.gathered.now axis)) × (r < 2 ^ 41)) _ _ _
-    c.before.before.weigh.ensures c.before.weigh2.ensures c.weigh3.ensures
+    c.weigh-x.ensures c.weigh-y.ensures c.weigh-z.ensures
 
 pub child_sums_spec : {M : Type 1} → statement M
 child_sums_spec = tie.close (tie.spec (λ c κs. search rules) (λ c κs. search rules) (λ c κs. search rules) returns)

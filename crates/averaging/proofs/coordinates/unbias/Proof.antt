@@ -25,13 +25,13 @@ back u = by_eq (nat u) (nat u ⊖ nat 536_870_912 ⊕ nat (2 ^ 29)) (omega arith
 small : (u : ℕ) → u < 2 ^ 30 → u < 2 ^ hbits w64
 small u h = omega arith
 
-cast-result : tie.Need-overflow-cast-result
+cast-result : tie.Need-overflow_cast-result
 cast-result c = search rules
 
-sub-result : tie.Need-overflow-sub-result
+sub-result : tie.Need-overflow_sub-result
 sub-result c = let k = small _ c.requires in simp to_z_pos (in64 _ c.requires)
 
-cast-result-2 : tie.Need-overflow-cast-result-2
+cast-result-2 : tie.Need-overflow_cast-result-2
 cast-result-2 c = let k = small _ c.requires in let f = in64 _ c.requires in simp (to_z_pos, to_z-of_z) (in32 _ c.requires)
 
 returns : tie.Need-returns

@@ -14,13 +14,12 @@ fits : (rank x : ℕ) → rank < 4 → x ≤ 2 ^ 22 → 8 * 2 ^ rank * x ≤ 64 
 fits rank x h k = mul-le-mul {n₁ = 8 * 2 ^ rank} {m₁ = x} {n₂ = 64} {m₂ = 2 ^ 22} (omega (arith, pow_mono {i = rank} {j = 3} (omega arith))) k
 
 returns : tie.Need-returns
-returns c = ap₂ ◌*◌ c.before.before.eights.ensures c.wide.ensures
+returns c = ap₂ ◌*◌ c.eights.ensures c.wide.ensures
 
-mul-result : tie.Need-overflow-mul-result
+mul-result : tie.Need-overflow_mul-result
 mul-result c =
-    let s = c.before.before.before.before.before in
-    let w = s.args.words.now in
-    omega (arith, returns c, fits (get_or w (2 * s.args.vertex) 0) (get_or w (2 * s.args.vertex + 1) 0) s.requires.1 s.requires.2)
+    let w = c.args.words.now in
+    omega (arith, returns c, fits (get_or w (2 * c.args.vertex) 0) (get_or w (2 * c.args.vertex + 1) 0) c.requires.1 c.requires.2)
 
 pub divisor_at_spec : {M : Type 1} → statement M
 divisor_at_spec =

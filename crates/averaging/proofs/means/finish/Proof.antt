@@ -12,29 +12,28 @@ use Rattle.averaging.proofs.Triples.{one_more}
 use Rattle.averaging.proofs.means.finish.Statement.{statement}
 use Rattle.averaging.proofs.means.finish.Tie as tie
 
-abbrev invariant-loop : tie.invariant-loop
+abbrev invariant-loop : tie.invariant-loop-f
 invariant-loop n words longs out₀ f₀ out f =
     (f ≤ n) × (length out ≡ length out₀)
     × ((a g : ℕ) → a < 3 → g < f → MeanOf (tally_at words longs a g) (get_or out (3 * g + a) (pos 0)))
     × ((a g : ℕ) → a < 3 → f ≤ g → get_or out (3 * g + a) (pos 0) ≡ get_or out₀ (3 * g + a) (pos 0))
 
-abbrev decreases-loop : tie.decreases-loop
+abbrev decreases-loop : tie.decreases-loop-f
 decreases-loop n words longs out₀ f₀ out f = n - f
 
-finish-at-requires : tie.Need-finish-at-requires invariant-loop decreases-loop
+finish-at-requires : tie.Need-finish_at-requires invariant-loop decreases-loop
 finish-at-requires c κs =
-    let s = c.before.before.before.before.before in
-    let l = c.before.before.loop in
-    (omega (arith, s.requires.0, l.invariant.1), λ a h. s.requires.1 a l.f h (omega arith))
+    let l = c.loop-f in
+    (omega (arith, c.requires.0, l.invariant.1), λ a h. c.requires.1 a l.f h (omega arith))
 
-loop-again : tie.Need-loop-preserved invariant-loop decreases-loop
+loop-again : tie.Need-loop-f-preserved invariant-loop decreases-loop
 loop-again c =
-    let a = c.before.before.before.before.before.before.before.args in
-    let l = c.before.before.before.before.loop in
-    let e = c.before.finish-at.ensures in (
+    let a = c.args in
+    let l = c.loop-f in
+    let e = c.finish_at.ensures in (
       omega arith,
       e.0 ∙ l.invariant.1,
-      λ x g h. one_more (λ (g : ℕ) (z : ℤ). MeanOf (tally_at a.words.now a.longs.now x g) z) l.f (λ (g : ℕ). get_or c.before.finish-at.new.1.1.1.0 (3 * g + x) (pos 0)) (λ (g : ℕ). get_or l.out (3 * g + x) (pos 0)) (λ g k. l.invariant.2 x g h k) (e.1.0 x h) (λ g n. e.1.1 x g h n) g,
+      λ x g h. one_more (λ (g : ℕ) (z : ℤ). MeanOf (tally_at a.words.now a.longs.now x g) z) l.f (λ (g : ℕ). get_or c.finish_at.new.out (3 * g + x) (pos 0)) (λ (g : ℕ). get_or l.out (3 * g + x) (pos 0)) (λ g k. l.invariant.2 x g h k) (e.1.0 x h) (λ g n. e.1.1 x g h n) g,
       λ x g h k. e.1.1 x g h (λ i. omega arith) ∙ l.invariant.3 x g h (omega arith),
     )
 
@@ -49,5 +48,5 @@ finish_spec =
     (λ c. search rules)
     (λ c. search rules)
     loop-again
-    (λ c. c.before.loop.invariant.1)
-    (λ c. let l = c.before.loop in (l.invariant.1, (λ a f h k. l.invariant.2 a f h (omega arith), λ a f h k. l.invariant.3 a f h (omega arith)))))
+    (λ c. c.loop-f.invariant.1)
+    (λ c. let l = c.loop-f in (l.invariant.1, (λ a f h k. l.invariant.2 a f h (omega arith), λ a f h k. l.invariant.3 a f h (omega arith)))))

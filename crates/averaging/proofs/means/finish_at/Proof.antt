@@ -29,38 +29,38 @@ module _ (words longs : List ℕ) (v a q divisor : ℕ) (at : q ≡ 3 * v + a) (
 zero_at : (v : ℕ) → 3 * v ≡ 3 * v + 0
 zero_at v = omega arith
 
-divisor-at-requires : tie.Need-divisor-at-requires
-divisor-at-requires c κs = let k = c.before.before.requires.1 0 (lit< tt) in (c.before.before.requires.0.0, k.low, k.few)
+divisor-at-requires : tie.Need-divisor_at-divisor-requires
+divisor-at-requires c κs = let k = c.requires.1 0 (lit< tt) in (c.requires.0.0, k.low, k.few)
 
-mean-of-requires : tie.Need-mean-of-requires
+mean-of-requires : tie.Need-mean_of-requires
 mean-of-requires c κs =
-    let a = c.before.before.before.before.args in
-    fits a.words.now a.longs.now a.vertex 0 _ _ (zero_at a.vertex) c.before.divisor-at.ensures (c.before.before.before.before.requires.1 0 (lit< tt))
+    let a = c.args in
+    fits a.words.now a.longs.now a.vertex 0 _ _ (zero_at a.vertex) c.divisor_at-divisor.ensures (c.requires.1 0 (lit< tt))
 
-mean-of-requires-2 : tie.Need-mean-of-requires-2
+mean-of-requires-2 : tie.Need-mean_of-requires-2
 mean-of-requires-2 c κs =
-    let a = c.before.before.before.before.before.before.args in
-    fits a.words.now a.longs.now a.vertex 1 _ _ refl c.before.before.before.divisor-at.ensures (c.before.before.before.before.before.before.requires.1 1 (lit< tt))
+    let a = c.args in
+    fits a.words.now a.longs.now a.vertex 1 _ _ refl c.divisor_at-divisor.ensures (c.requires.1 1 (lit< tt))
 
-mean-of-requires-3 : tie.Need-mean-of-requires-3
+mean-of-requires-3 : tie.Need-mean_of-requires-3
 mean-of-requires-3 c κs =
-    let a = c.before.before.before.before.before.before.before.before.args in
-    fits a.words.now a.longs.now a.vertex 2 _ _ refl c.before.before.before.before.before.divisor-at.ensures (c.before.before.before.before.before.before.before.before.requires.1 2 (lit< tt))
+    let a = c.args in
+    fits a.words.now a.longs.now a.vertex 2 _ _ refl c.divisor_at-divisor.ensures (c.requires.1 2 (lit< tt))
 
 returns : tie.Need-returns
 returns c =
-    let a = c.before.before.before.before.before.before.before.before.before.args in
+    let a = c.args in
     let v = a.vertex in
     let w = a.words.now in
     let l = a.longs.now in
     let o = a.out.now in
-    let x = c.before.before.before.before.mean-of in
-    let y = c.before.before.mean-of2 in
-    let z = c.mean-of3 in
-    let is = c.before.before.before.before.before.before.divisor-at.ensures in
-    let fx : SFits w32 x.result = sfits_of x.type-inv in
-    let fy : SFits w32 y.result = sfits_of y.type-inv in
-    let fz : SFits w32 z.result = sfits_of z.type-inv in
+    let x = c.mean_of in
+    let y = c.mean_of-2 in
+    let z = c.mean_of-3 in
+    let is = c.divisor_at-divisor.ensures in
+    let fx : SFits w32 x.result = sfits_of x.type_inv in
+    let fy : SFits w32 y.result = sfits_of y.type_inv in
+    let fz : SFits w32 z.result = sfits_of z.type_inv in
     simp to_z-of_z (
       triple_length (pos 0) o v x.result y.result z.result,
       (

@@ -25,28 +25,27 @@ trailing_lt (suc k) n p h = go (n % 2) refl (λ q. trailing_lt k (n / 2) q (let 
 zeros-lt : (c : lts.Start reads.Pre reads.Post) → count_trailing_zeros 64 c.args.divisor < 64
 zeros-lt c = trailing_lt 64 c.args.divisor c.requires (omega (arith, c.ranges.divisor))
 
-cast-if1 : tie.Need-overflow-cast-if1
+cast-if1 : tie.Need-overflow_cast-zeros
 cast-if1 c = search (rules, zeros-lt c)
 
-shl-if1 : tie.Need-overflow-shl-if1
+shl-if1 : tie.Need-overflow_shl-zeros
 shl-if1 c = zeros-lt c
 
-cast-result : tie.Need-overflow-cast-result
+cast-result : tie.Need-overflow_cast-result
 cast-result c = search (rules, zeros-lt c.before)
 
-shr-result : tie.Need-overflow-shr-result
+shr-result : tie.Need-overflow_shr-result
 shr-result c = zeros-lt c.before
 
-returns : tie.Need-returns
+returns : tie.Need-returns-then-divisor-zeros
 returns c =
-    let s = c.before in
-    let k = count_trailing_zeros 64 s.args.divisor in
-    ap (λ (d : ℕ). s.args.sum / d) (sym (c.if1.true ∙ shl_exact 1 k 64 (lit< tt) (omega (arith, zeros-lt s)) ∙ one-mul (2 ^ k)))
+    let k = count_trailing_zeros 64 c.args.divisor in
+    ap (λ (d : ℕ). c.args.sum / d) (sym (c.if-divisor-zeros.true ∙ shl_exact 1 k 64 (lit< tt) (omega (arith, zeros-lt c.before)) ∙ one-mul (2 ^ k)))
 
-div-result : tie.Need-nonzero-div-result
+div-result : tie.Need-nonzero_div-result
 div-result c = search rules
 
-returns-2 : tie.Need-returns-2
+returns-2 : tie.Need-returns
 returns-2 c = search rules
 
 pub quotient_spec : {M : Type 1} → statement M

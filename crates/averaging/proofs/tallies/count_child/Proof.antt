@@ -11,34 +11,33 @@ use Rattle.averaging.proofs.Steps.{tallied_start, tallied_again, tallied_end, fi
 use Rattle.averaging.proofs.tallies.count_child.Statement.{statement}
 use Rattle.averaging.proofs.tallies.count_child.Tie as tie
 
-abbrev invariant-loop : tie.invariant-loop
+abbrev invariant-loop : tie.invariant-loop-j
 invariant-loop fine at n d sums words₀ longs₀ j₀ words longs j =
     (j ≤ n) × Tallied j (λ (a : ℕ). repeat j (λ (j : ℕ). corner_step d (get_or sums a 0) (get_or fine (at + j) 0))) words₀ longs₀ words longs
 
-abbrev decreases-loop : tie.decreases-loop
+abbrev decreases-loop : tie.decreases-loop-j
 decreases-loop fine at n d sums words₀ longs₀ j₀ words longs j = n - j
 
-count-at-requires : tie.Need-count-at-requires invariant-loop decreases-loop
+count-at-requires : tie.Need-count_at-requires invariant-loop decreases-loop
 count-at-requires c κs =
-    let s = c.before.before.before.before.before.before.before.before in
-    let l = c.before.before.before.before.loop in
-    let p = s.args.at + l.j in
-    let left : Fine s.args.at s.args.n 1 s.args.fine.now l.words l.longs =
-    fine_after l.j l.invariant.1 (fine_part (omega arith) (omega arith) (omega arith) s.requires.0) in
-    rw c.before.before.vertex-at.ensures
-    ((left.ranked p (omega arith) (omega arith), left.summed p (omega arith) (omega arith)), (λ a h. left.room p a (omega arith) (omega arith) h, s.requires.1))
+    let l = c.loop-j in
+    let p = c.args.at + l.j in
+    let left : Fine c.args.at c.args.n 1 c.args.fine.now l.words l.longs =
+    fine_after l.j l.invariant.1 (fine_part (omega arith) (omega arith) (omega arith) c.requires.0) in
+    rw c.vertex_at-vertex.ensures
+    ((left.ranked p (omega arith) (omega arith), left.summed p (omega arith) (omega arith)), (λ a h. left.room p a (omega arith) (omega arith) h, c.requires.1))
 
-loop-again : tie.Need-loop-preserved invariant-loop decreases-loop
+loop-again : tie.Need-loop-j-preserved invariant-loop decreases-loop
 loop-again c =
-    let a = c.before.before.before.before.before.before.before.before.before.before.before.before.before.args in
-    let l = c.before.before.before.before.before.before.before.before.before.loop in
-    (omega arith, tallied_again (λ (x j : ℕ). corner_step a.d (get_or a.sums x 0) (get_or a.fine.now (a.at + j) 0)) l.j refl l.invariant.1 (rw c.before.before.before.before.before.before.before.vertex-at.ensures at c.before.before.before.before.count_at.ensures))
+    let a = c.args in
+    let l = c.loop-j in
+    (omega arith, tallied_again (λ (x j : ℕ). corner_step a.d (get_or a.sums x 0) (get_or a.fine.now (a.at + j) 0)) l.j refl l.invariant.1 (rw c.vertex_at-vertex.ensures at c.count_at.ensures))
 
 returns : tie.Need-returns invariant-loop decreases-loop
 unfolding child_step
 returns c =
-    let a = c.before.before.before.before.before.args in
-    tallied_end (λ (j : ℕ). j) (λ (x j : ℕ). corner_step a.d (get_or a.sums x 0) (get_or a.fine.now (a.at + j) 0)) (omega arith) c.before.loop.invariant.1
+    let a = c.args in
+    tallied_end (λ (j : ℕ). j) (λ (x j : ℕ). corner_step a.d (get_or a.sums x 0) (get_or a.fine.now (a.at + j) 0)) (omega arith) c.loop-j.invariant.1
 
 pub count_child_spec : {M : Type 1} → statement M
 count_child_spec =
@@ -47,12 +46,12 @@ count_child_spec =
     invariant-loop
     decreases-loop
     (λ c. (omega arith, tallied_start _ _ _ _))
-    (λ c. omega (arith, c.before.before.before.before.before.requires.0.whole))
-    (λ c κs. omega (arith, c.before.before.before.before.before.requires.0.whole))
+    (λ c. omega (arith, c.requires.0.whole))
+    (λ c κs. omega (arith, c.requires.0.whole))
     count-at-requires
     (λ c. search rules)
     (λ c. search rules)
     loop-again
-    (λ c. c.before.loop.invariant.1.changed.words_kept)
-    (λ c. c.before.loop.invariant.1.changed.longs_kept)
+    (λ c. c.loop-j.invariant.1.changed.words_kept)
+    (λ c. c.loop-j.invariant.1.changed.longs_kept)
     returns)

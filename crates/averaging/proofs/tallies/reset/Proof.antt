@@ -11,20 +11,20 @@ use Rattle.averaging.proofs.Triples.{none_below, more_below, on_axes}
 use Rattle.averaging.proofs.tallies.reset.Statement.{statement}
 use Rattle.averaging.proofs.tallies.reset.Tie as tie
 
-abbrev invariant-loop : tie.invariant-loop
+abbrev invariant-loop : tie.invariant-loop-f
 invariant-loop n words₀ longs₀ f₀ words longs f = (f ≤ n) × Changed (λ (a g : ℕ) (t : Tally). cond (ltb g f) nothing t) words₀ longs₀ words longs
 
-abbrev decreases-loop : tie.decreases-loop
+abbrev decreases-loop : tie.decreases-loop-f
 decreases-loop n words₀ longs₀ f₀ words longs f = n - f
 
-loop-holds : tie.Need-loop-init invariant-loop decreases-loop
+loop-holds : tie.Need-loop-f-init invariant-loop decreases-loop
 loop-holds c = (omega arith, record { words_kept = refl; longs_kept = refl; each = λ a g h. none_below (λ (g : ℕ). nothing) _ g })
 
-loop-again : tie.Need-loop-preserved invariant-loop decreases-loop
+loop-again : tie.Need-loop-f-preserved invariant-loop decreases-loop
 loop-again c =
-    let a = c.before.before.before.before.before.before.before.before.before.before.before.args in
-    let l = c.before.before.before.before.before.before.before.before.loop in
-    let s = c.before.before.before.before.store.ensures in (
+    let a = c.args in
+    let l = c.loop-f in
+    let s = c.store.ensures in (
       omega arith,
       record {
         words_kept = s.words_kept ∙ l.invariant.1.words_kept;
@@ -38,8 +38,8 @@ loop-again c =
 
 returns : tie.Need-returns invariant-loop decreases-loop
 returns c =
-    let a = c.before.before.before.before.args in
-    let l = c.before.loop in
+    let a = c.args in
+    let l = c.loop-f in
     let e : l.f ≡ a.n = omega arith in
     record {
       words_kept = l.invariant.1.words_kept;
@@ -54,10 +54,10 @@ reset_spec =
     invariant-loop
     decreases-loop
     loop-holds
-    (λ c κs. omega (arith, c.before.before.before.before.before.before.requires, c.before.before.before.loop.invariant.1.words_kept, c.before.before.before.loop.invariant.1.longs_kept))
+    (λ c κs. omega (arith, c.requires, c.loop-f.invariant.1.words_kept, c.loop-f.invariant.1.longs_kept))
     (λ c. search rules)
     (λ c. search rules)
     loop-again
-    (λ c. c.before.loop.invariant.1.words_kept)
-    (λ c. c.before.loop.invariant.1.longs_kept)
+    (λ c. c.loop-f.invariant.1.words_kept)
+    (λ c. c.loop-f.invariant.1.longs_kept)
     returns)

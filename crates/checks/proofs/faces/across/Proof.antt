@@ -20,11 +20,11 @@ uneven f h = rw (le-ltb _ _ h)
 
 returns : tie.Need-returns-then-lesser
 returns c =
-    c.greater.ensures ∙ even c.args.t1 (rw (c.lesser.ensures, c.lesser-2.ensures) at c.if-lesser.true)
+    c.greater.ensures ∙ even c.args.f (rw (c.lesser.ensures, c.lesser-2.ensures) at c.if-lesser.true)
 
 returns-2 : tie.Need-returns-else-lesser
 returns-2 c =
-    c.greater-else-lesser.ensures ∙ uneven c.args.t1 (rw (c.lesser.ensures, c.lesser-2.ensures) at c.if-lesser.false)
+    c.greater-else-lesser.ensures ∙ uneven c.args.f (rw (c.lesser.ensures, c.lesser-2.ensures) at c.if-lesser.false)
 
 pub across_spec : {M : Type 1} → statement M
 across_spec =

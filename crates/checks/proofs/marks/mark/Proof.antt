@@ -9,6 +9,7 @@ use Rattle.checks.specs.Marked.{Marked}
 use Rattle.checks.proofs.Marking.{mark_start, mark_hit, mark_miss, mark_end}
 use Rattle.checks.proofs.marks.mark.Statement.{statement}
 use Rattle.checks.proofs.marks.mark.Tie as tie
+use Rattle.checks.proofs.marks.mark.Lts.{then-first-v+then-v-first, else-first-v}
 
 abbrev invariant-loop : tie.invariant-loop-i
 invariant-loop w₀ first x table i₀ w i = Marked first x w₀ w (take i table)
@@ -19,7 +20,7 @@ decreases-loop w₀ first x table i₀ w i = length table - i
 -- the corner has a place in the window
 inside : (c : tie.Then-v-first invariant-loop decreases-loop) →
     get_or c.args.table.now c.loop-i.i 0 - c.args.first < length c.loop-i.w
-inside c = ltb-true _ _ c.if-v-first.true
+inside c = c.if-v-first.true
 
 loop-again : tie.Need-loop-i-preserved invariant-loop decreases-loop
 loop-again c =
@@ -27,13 +28,10 @@ loop-again c =
     let place = corner - c.args.first in
     let size = length c.loop-i.w in
     let m = c.loop-i.invariant in
-    ⊎_elim
-    (λ w. rw w.2
-    (mark_hit c.args.table.now c.loop-i.i m c.loop-i-test.true place (omega (arith, w.0.taken)) (omega (arith, ltb-true place size w.1.taken, m.kept))))
-    (λ w. rw w.1
-    (mark_miss c.args.table.now c.loop-i.i m c.loop-i-test.true
-    (λ v k e. ⊎_elim (λ t. omega (arith, t.0.taken, ltb-false place size t.1.left, m.kept)) (λ t. omega (arith, t.left)) w.0.came)))
-    c.if-first-v.branch
+    elim c.if-first-v.branch [
+      | then-first-v+then-v-first w ↦ rw w.w-is (mark_hit c.args.table.now c.loop-i.i m c.loop-i-test.true place (omega arith) (omega (arith, w.if-v-first.true, m.kept)))
+      | else-first-v w ↦ rw w.w-is (mark_miss c.args.table.now c.loop-i.i m c.loop-i-test.true (λ v k e. omega arith))
+    ]
 
 pub mark_spec : {M : Type 1} → statement M
 mark_spec =

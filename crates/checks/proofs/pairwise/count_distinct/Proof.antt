@@ -11,6 +11,7 @@ use Rattle.checks.specs.Walk.{met_in}
 use Rattle.checks.proofs.Counting.{Counting, count_start, count_known, count_new, count_end}
 use Rattle.checks.proofs.pairwise.count_distinct.Statement.{statement}
 use Rattle.checks.proofs.pairwise.count_distinct.Tie as tie
+use Rattle.checks.proofs.pairwise.count_distinct.Lts.{then-not-is_met_before, else-not-is_met_before}
 
 abbrev invariant-loop : tie.invariant-loop-i
 invariant-loop d hexes quads segments n count₀ i₀ count i = Counting (map key_of (met_in d hexes quads segments)) i count
@@ -33,10 +34,10 @@ is-met-before-requires c κs = (c.requires.0, (c.requires.1, listed c))
 
 loop-again : tie.Need-loop-i-preserved invariant-loop decreases-loop
 loop-again c =
-    ⊎_elim
-    (λ w. rw w.1 (count_new c.loop-i.invariant (keyed c.before.before) (sym c.is_met_before.ensures ∙ not-true c.is_met_before.result w.0.taken)))
-    (λ w. rw w.1 (count_known c.loop-i.invariant (keyed c.before.before) (sym c.is_met_before.ensures ∙ not-false c.is_met_before.result w.0.left)))
-    c.if-not-is_met_before.branch
+    elim c.if-not-is_met_before.branch [
+      | then-not-is_met_before w ↦ rw w.count-is (count_new c.loop-i.invariant (keyed c.before.before) (sym c.is_met_before.ensures ∙ w.if-not-is_met_before.true))
+      | else-not-is_met_before w ↦ rw w.count-is (count_known c.loop-i.invariant (keyed c.before.before) (sym c.is_met_before.ensures ∙ w.if-not-is_met_before.false))
+    ]
 
 returns : tie.Need-returns invariant-loop decreases-loop
 returns c =

@@ -13,7 +13,7 @@ returns c =
     rw (
       mismatched_at a.hexes.now a.quads.now a.segments.now c.requires.0 a.i a.j c.requires.1.0 c.requires.1.1,
       ← c.same_parts.ensures,
-      not-true c.same_parts.result c.if-not-same_parts.true,
+      c.if-not-same_parts.true,
     )
 
 returns-2 : tie.Need-returns
@@ -24,7 +24,7 @@ returns-2 c =
     rw (
       mismatched_at a.hexes.now a.quads.now a.segments.now c.requires.0 a.i a.j c.requires.1.0 c.requires.1.1,
       ← c.same_parts.ensures,
-      not-false c.same_parts.result c.if-not-same_parts.false,
+      c.if-not-same_parts.false,
       first,
       second,
     ) refl

@@ -23,13 +23,12 @@ decided s = same_by_corners s.args.a.now s.args.b.now s.requires.0 s.requires.1.
 
 returns : tie.Need-returns-then-not-has_number invariant-loop decreases-loop
 returns c =
-    let found = scan_hit (any_search _) 0 c.loop-i.invariant c.loop-i-test.true (ap not (sym c.has_number.ensures)
-    ∙ c.if-not-has_number.true) in
+    let found = scan_hit (any_search _) 0 c.loop-i.invariant c.loop-i-test.true (ap not (sym c.has_number.ensures ∙ c.if-not-has_number.true)) in
     sym (decided c.before.before.before.before.before.before.before ∙ ap not (sym found))
 
 loop-again : tie.Need-loop-i-preserved invariant-loop decreases-loop
 loop-again c =
-    scan_miss (any_search _) 0 c.loop-i.invariant c.loop-i-test.true (ap not (sym c.has_number.ensures) ∙ c.if-not-has_number.false)
+    scan_miss (any_search _) 0 c.loop-i.invariant c.loop-i-test.true (ap not (sym c.has_number.ensures ∙ c.if-not-has_number.false))
 
 returns-2 : tie.Need-returns invariant-loop decreases-loop
 returns-2 c =
