@@ -45,6 +45,10 @@ module _ (f : Format) (s : Bool) (a c : ℕ) (h : 0 < c) where
 
   same_bits : (x y : Float) → HasValue x s a c → HasValue y s a c → to_bits f x ≡ to_bits f y
   unfolding to_bits
+  same_bits (fin t m e) (lib.Ieee.inf _) v w = elim w [ ]
+  same_bits (fin t m e) lib.Ieee.nan v w = elim w [ ]
+  same_bits (lib.Ieee.inf _) y v w = elim v [ ]
+  same_bits lib.Ieee.nan y v w = elim v [ ]
   same_bits (fin t m e) (fin u n g) v w = rw (v.0, w.0, in_units m e v.1, in_units n g w.1)
 
   pub one_value : {x y : Float} → T (fits f x) → T (fits f y) → HasValue x s a c → HasValue y s a c → x ≡ y
@@ -97,6 +101,8 @@ like false = refl
 
 quotient : (x : Float) (s : Bool) (n : ℕ) → HasValue x s n 1 → div binary64 x thousand ≡ round binary64 s n 1024
 unfolding div
+quotient (lib.Ieee.inf _) s n v = elim v [ ]
+quotient lib.Ieee.nan s n v = elim v [ ]
 quotient (fin t m e) s n v =
     rw (like t, v.0)
     (round_same binary64 s (m * up e * 1) (1 * 1024 * down e) n 1024 (mul-pos (lit< tt) (down_pos e)) (lit< tt) (rw v.1 (omega arith)))

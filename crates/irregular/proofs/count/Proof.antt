@@ -34,20 +34,17 @@ by : (s : tie.Start) → let m = mesh_of s in irregular_count (topology m) ≡ l
 by s = let a = accepted s in count_by (mesh_of s) a.entire (no_repeated_corner (topology (mesh_of s)) a.sound)
 
 count-requires : tie.Need-count-requires
-count-requires c κs = let s = c.before.before.before.before.before.before.before.before in (omega arith, short (mesh_of s) (accepted s))
+count-requires c κs = (omega arith, short (mesh_of c.before.before.before.before.before.before.before.before) (accepted c.before.before.before.before.before.before.before.before))
 
-returns : tie.Need-returns
-returns c = let t = c.before in t.count.ensures ∙ sym (by t.before.before.before.before.before.before.before.before.before)
+returns : tie.Need-returns-then-is_little
+returns c = c.count.ensures ∙ sym (by c.before.before.before.before.before.before.before.before.before.before)
 
 count-requires-2 : tie.Need-count-requires-2
 count-requires-2 c κs =
-    let e = c.before in
-    let l = e.before in
-    let s = l.before.before.before.before.before.before in
-    (omega (arith, l.is-little.ensures e.if1.false), short (mesh_of s) (accepted s))
+    (omega (arith, c.is_little.ensures c.if-is_little.false), short (mesh_of c.before.before.before.before.before.before.before.before) (accepted c.before.before.before.before.before.before.before.before))
 
-returns-2 : tie.Need-returns-2
-returns-2 c = let t = c.before.before in t.count2.ensures ∙ sym (by t.before.before.before.before.before.before.before.before.before)
+returns-2 : tie.Need-returns
+returns-2 c = c.count-2.ensures ∙ sym (by c.before.before.before.before.before.before.before.before.before.before.before)
 
 pub count_spec : {M : Type 1} → statement M
 count_spec =

@@ -34,27 +34,20 @@ answered : (m : Mesh) (n : ℕ) → mesh_checks m 0 ≡ 0 → n ≡ irregular_co
 unfolding irregular_answer
 answered m n h e = rw (h, e)
 
-returns : tie.Need-returns
+returns : tie.Need-returns-then-refusal-ne0
 returns c =
-    let z = c.before.before in
-    let i = z.before.before in
-    let r = i.before.before.before in
-    let s = r.before.before.before.before.before.before.before in (
-      made z.answer.result r.check-mesh.result.refusal 0 z.answer.ensures.0.0 z.answer.ensures.0.1
-          ∙ refused (mesh_of s) r.check-mesh.result.refusal r.check-mesh.ensures.refusal i.if1.true,
-      z.answer.ensures.1 ∙ ap (λ (n : ℕ). replicate n 0) r.check-mesh.auto.1.1.1.1.1.0,
+    (
+      made c.answer.result c.check_mesh-checked.result.refusal 0 c.answer.ensures.0.0 c.answer.ensures.0.1
+          ∙ refused (mesh_of c.before.before.before.before.before.before.before.before.before.before.before.before.before.before) c.check_mesh-checked.result.refusal c.check_mesh-checked.ensures.refusal c.if-refusal-ne0.true,
+      c.answer.ensures.1 ∙ ap (λ (n : ℕ). replicate n 0) c.check_mesh-checked.auto.words,
     )
 
-returns-2 : tie.Need-returns-2
+returns-2 : tie.Need-returns
 returns-2 c =
-    let z = c.before.before in
-    let n = z.before.before.before.before in
-    let i = n.before.before in
-    let r = i.before.before.before in
-    let s = r.before.before.before.before.before.before.before in (
-      made z.answer2.result 0 n.count.result z.answer2.ensures.0.0 z.answer2.ensures.0.1
-          ∙ answered (mesh_of s) n.count.result (sym r.check-mesh.ensures.refusal ∙ i.if1.false) n.count.ensures,
-      z.answer2.ensures.1 ∙ ap (λ (n : ℕ). replicate n 0) (n.count.auto.1.1.1.1.1.0 ∙ r.check-mesh.auto.1.1.1.1.1.0),
+    (
+      made c.answer-2.result 0 c.count-count.result c.answer-2.ensures.0.0 c.answer-2.ensures.0.1
+          ∙ answered (mesh_of c.before.before.before.before.before.before.before.before.before.before.before.before.before.before.before.before.before.before) c.count-count.result (sym c.check_mesh-checked.ensures.refusal ∙ c.if-refusal-ne0.false) c.count-count.ensures,
+      c.answer-2.ensures.1 ∙ ap (λ (c.before.before.before.before.before.before : ℕ). replicate c.before.before.before.before.before.before 0) (c.count-count.auto.words ∙ c.check_mesh-checked.auto.words),
     )
 
 pub irregular_count_spec : {M : Type 1} → statement M

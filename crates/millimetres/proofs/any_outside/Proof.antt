@@ -13,26 +13,23 @@ use Rattle.millimetres.proofs.any_outside.Tie as tie
 test : {b : Bool} {y : ℤ} (z : ℤ) → b ≡ outside y → y ≡ z → b ≡ outside z
 test z e c = e ∙ ap outside c
 
-returns : tie.Need-returns
+returns : tie.Need-returns-then-is_outside
 returns c =
-    let s = c.before.before in
-    let first = test s.args.x c.before.is-outside.ensures (to_z-of_z w32 s.args.x s.ranges.x) in
-    rw (← first, c.if1.true)
+    let first = test c.args.x c.is_outside.ensures (to_z-of_z w32 c.args.x c.ranges.x) in
+    rw (← first, c.if-is_outside.true)
 
-returns-2 : tie.Need-returns-2
+returns-2 : tie.Need-returns-then-is_outside-2
 returns-2 c =
-    let s = c.before.before.before.before in
-    let first = test s.args.x c.before.before.before.is-outside.ensures (to_z-of_z w32 s.args.x s.ranges.x) in
-    let second = test s.args.y c.before.is-outside2.ensures (to_z-of_z w32 s.args.y s.ranges.y) in
-    rw (← first, c.before.before.if1.false, ← second, c.if2.true)
+    let first = test c.args.x c.is_outside.ensures (to_z-of_z w32 c.args.x c.ranges.x) in
+    let second = test c.args.y c.is_outside-else-is_outside.ensures (to_z-of_z w32 c.args.y c.ranges.y) in
+    rw (← first, c.if-is_outside.false, ← second, c.if-is_outside-2.true)
 
-returns-3 : tie.Need-returns-3
+returns-3 : tie.Need-returns-else-is_outside-2
 returns-3 c =
-    let s = c.before.before.before.before.before in
-    let first = test s.args.x c.before.before.before.before.is-outside.ensures (to_z-of_z w32 s.args.x s.ranges.x) in
-    let second = test s.args.y c.before.before.is-outside2.ensures (to_z-of_z w32 s.args.y s.ranges.y) in
-    let third = test s.args.z c.is-outside3.ensures (to_z-of_z w32 s.args.z s.ranges.z) in
-    rw (← first, c.before.before.before.if1.false, ← second, c.before.if2.false, third)
+    let first = test c.args.x c.is_outside.ensures (to_z-of_z w32 c.args.x c.ranges.x) in
+    let second = test c.args.y c.is_outside-else-is_outside.ensures (to_z-of_z w32 c.args.y c.ranges.y) in
+    let third = test c.args.z c.is_outside-else-is_outside-2.ensures (to_z-of_z w32 c.args.z c.ranges.z) in
+    rw (← first, c.if-is_outside.false, ← second, c.if-is_outside-2.false, third)
 
 pub any_outside_spec : {M : Type 1} → statement M
 any_outside_spec = tie.close (tie.spec (λ c κs. search rules) (λ c κs. search rules) (λ c κs. search rules) returns returns-2 returns-3)

@@ -9,7 +9,7 @@ use Rattle.millimetres.proofs.in_millimetres.Tie as tie
 
 returns : tie.Need-returns
 unfolding of_bits
-returns c = let s = c.before in rw (to_z-of_z w32 s.args.z s.ranges.z) (divided s.args.z s.requires)
+returns c = rw (to_z-of_z w32 c.args.z c.ranges.z) (divided c.args.z c.requires)
 
 pub in_millimetres_spec : {M : Type 1} → statement M
 in_millimetres_spec = tie.close (tie.spec (λ c. search rules) returns)

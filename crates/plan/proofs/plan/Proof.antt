@@ -13,69 +13,61 @@ use Rattle.plan.proofs.plan.Statement.{statement}
 use Rattle.plan.proofs.plan.Tie as tie
 
 -- from the first test back to checks 1 to 8, and to the start
-abbrev checked : tie.After-slice-known2 → tie.After-check-mesh
+abbrev checked : tie.After-slice_known-2-1 → tie.After-check_mesh-checked
 checked c = c.before.before
 
-abbrev start : tie.After-slice-known2 → tie.Start
+abbrev start : tie.After-slice_known-2-1 → tie.Start
 start c = (checked c).before.before.before.before.before.before.before
 
 -- from check 10 back to the finished sizes, from there to the sizes of the mesh and to check 9
-abbrev finished : tie.After-out-of-range → tie.After-sizes-after
+abbrev finished : tie.After-out_of_range → tie.After-sizes_after-finished
 finished c = c.before
 
-abbrev sized : tie.After-slice-known3 → tie.After-mesh-sizes
+abbrev sized : tie.After-slice_known-3-1 → tie.After-mesh_sizes-start
 sized c = c.before.before
 
-abbrev few : tie.After-mesh-sizes → tie.Else2
+abbrev few : tie.After-mesh_sizes-start → tie.Else-rounds-gt8
 few z = z.before.before
 
 -- the mesh at the start
-abbrev given : tie.After-slice-known2 → Mesh
+abbrev given : tie.After-slice_known-2-1 → Mesh
 given c = let a = (start c).args in mesh a.xs.now a.hs.now a.qs.now a.ss.now a.ps.now
 
 -- past the first test the mesh passed checks 1 to 8
-passed : (e : tie.Else1) → Accepted (given e.before)
-passed e = checks_accept (given e.before) (sym (checked e.before).check-mesh.ensures.refusal ∙ e.if1.false)
+passed : (e : tie.Else-refusal-ne0) → Accepted (given e.before)
+passed e = checks_accept (given e.before) (sym (checked e.before).check_mesh-checked.ensures.refusal ∙ e.if-refusal-ne0.false)
 
-returns : tie.Need-returns
+returns : tie.Need-returns-then-refusal-ne0
 returns c =
-    let t = c.before in
-    let k = (checked t.before).check-mesh in
-    planned_mesh (given t.before) (start t.before).args.rounds c.refused.result k.result.refusal c.refused.ensures t.if1.true k.ensures.refusal
+    let k = (checked c.before.before).check_mesh-checked in
+    planned_mesh (given c.before.before) (start c.before.before).args.rounds c.refused.result k.result.refusal c.refused.ensures c.if-refusal-ne0.true k.ensures.refusal
 
-returns-2 : tie.Need-returns-2
+returns-2 : tie.Need-returns-then-rounds-gt8
 returns-2 c =
-    let e = c.before.before in
-    planned_rounds (given e.before) (start e.before).args.rounds c.refused2.result (passed e) c.refused2.ensures c.before.if2.true
+    planned_rounds (given c.before.before.before) (start c.before.before.before).args.rounds c.refused-then-rounds-gt8.result (passed c.before.before) c.refused-then-rounds-gt8.ensures c.if-rounds-gt8.true
 
-mesh-sizes-requires : tie.Need-mesh-sizes-requires
+mesh-sizes-requires : tie.Need-mesh_sizes-start-requires
 mesh-sizes-requires c κs =
-    let e = c.before.before in
-    (no_repeated_corner _ (passed e).sound, (no_duplicate_cell _ (passed e).sound, (checked e.before).check-mesh.ensures.faces e.if1.false))
+    (no_repeated_corner _ (passed c.before.before).sound, (no_duplicate_cell _ (passed c.before.before).sound, (checked c.before.before.before).check_mesh-checked.ensures.faces c.if-refusal-ne0.false))
 
-sizes-after-requires : tie.Need-sizes-after-requires
+sizes-after-requires : tie.Need-sizes_after-finished-requires
 sizes-after-requires c κs =
     let z = sized c in
-    let e = (few z).before in
-    (subst (λ (s : Sizes). Bounded (2 ^ 23) s) (sym z.mesh-sizes.ensures) (accepted_bounded (given e.before) (passed e)), (few z).if2.left)
+    (subst (λ (s : Sizes). Bounded (2 ^ 23) s) (sym z.mesh_sizes-start.ensures) (accepted_bounded (given (few z).before.before) (passed (few z).before)), (few z).if-rounds-gt8.false)
 
-returns-3 : tie.Need-returns-3
+returns-3 : tie.Need-returns-then-out_of_range
 returns-3 c =
-    let o = c.before.before in
-    let f = finished o in
+    let f = finished c.before.before in
     let z = sized f.before in
-    let e = (few z).before in
-    planned_large (given e.before) (start e.before).args.rounds c.refused3.result (passed e) (few z).if2.left z.mesh-sizes.result f.sizes-after.result z.mesh-sizes.ensures f.sizes-after.ensures
-    c.refused3.ensures (sym o.out_of_range.ensures ∙ c.before.if3.true)
+    planned_large (given (few z).before.before) (start (few z).before.before).args.rounds c.refused-then-out_of_range.result (passed (few z).before) (few z).if-rounds-gt8.false z.mesh_sizes-start.result f.sizes_after-finished.result z.mesh_sizes-start.ensures f.sizes_after-finished.ensures
+    c.refused-then-out_of_range.ensures (sym c.out_of_range.ensures ∙ c.if-out_of_range.true)
 
-returns-4 : tie.Need-returns-4
+returns-4 : tie.Need-returns
 returns-4 c =
-    let o = c.before in
-    let f = finished o in
+    let f = finished c.before in
     let z = sized f.before in
-    let e = (few z).before in
-    planned (given e.before) (start e.before).args.rounds _ (passed e) (few z).if2.left z.mesh-sizes.result f.sizes-after.result z.mesh-sizes.ensures f.sizes-after.ensures refl refl refl
-    (sym o.out_of_range.ensures ∙ c.if3.false)
+    planned (given (few z).before.before) (start (few z).before.before).args.rounds _ (passed (few z).before) (few z).if-rounds-gt8.false z.mesh_sizes-start.result f.sizes_after-finished.result z.mesh_sizes-start.ensures f.sizes_after-finished.ensures refl refl refl
+    (sym c.out_of_range.ensures ∙ c.if-out_of_range.false)
 
 pub plan_spec : {M : Type 1} → statement M
 plan_spec =

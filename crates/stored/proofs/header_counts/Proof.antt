@@ -10,8 +10,8 @@ use Rattle.stored.proofs.header_counts.Tie as tie
 returns : tie.Need-returns
 unfolding header_answer
 returns c =
-    let s = c.before.before.before.args.bytes.now in
-    c.answer-of.ensures ∙ ap answer_of c.before.read-counts.ensures ∙ answer_head (header_checks s 0) (header_of s).counts
+    let s = c.args.bytes.now in
+    c.answer_of.ensures ∙ ap answer_of c.read_counts.ensures ∙ answer_head (header_checks s 0) (header_of s).counts
 
 pub header_counts_spec : {M : Type 1} → statement M
 header_counts_spec = tie.close (tie.spec (λ c κs. search rules) (λ c κs. search rules) returns)

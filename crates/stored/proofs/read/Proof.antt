@@ -16,58 +16,52 @@ use Rattle.stored.proofs.read.Tie as tie
 abbrev lent : tie.Start → Mesh
 lent c = let a = c.args in mesh a.xs.now a.hexes.now a.quads.now a.segments.now a.points.now
 
-abbrev start : tie.After-check-file → tie.Start
+abbrev start : tie.After-check_file-h → tie.Start
 start c = c.before.before.before.before.before.before
 
 -- the file is made of bytes
-bytes : (c : tie.After-check-file) → Bytes (start c).args.bytes.now
-bytes c i = (c.before.before.before.before.before.shared-slice-known.given i).fits
+bytes : (c : tie.After-check_file-h) → Bytes (start c).args.bytes.now
+bytes c i = (c.shared_slice_known-1.given i).fits
 
-returns : tie.Need-returns
+returns : tie.Need-returns-in_default
 returns c =
-    let told = c.before.enum_told.given.1 in
-    let check = c.before.before.before in
-    let s = (start check).args.bytes.now in
-    let t = lent (start check) in
-    let r = file_refused s t (sym check.check-file.ensures ∙ told) in
-    let answer = c.answer-of.ensures ∙ ap answer_of told ∙ r.answer in
-    (answer, (r.output, promised_bytes s t _ _ answer r.output (bytes check)))
+    let told = c.in_default.is in
+    let s = (start c.before.before).args.bytes.now in
+    let t = lent (start c.before.before) in
+    let r = file_refused s t (sym c.check_file-h.ensures ∙ told) in
+    let answer = c.answer_of.ensures ∙ ap answer_of told ∙ r.answer in
+    (answer, (r.output, promised_bytes s t _ _ answer r.output (bytes c.before.before)))
 
 -- the file passed its checks
-passed : (c : tie.After-known-told)
-    → let s = (start c.before.before.before).args.bytes.now in head_of (file_checks s 0) (header_of s).counts ≡ H.Read c.before.h.given.0.0
-passed c = sym c.before.before.before.check-file.ensures ∙ c.before.h.given.1
+passed : (c : tie.In-Read)
+    → let s = (start c.before).args.bytes.now in head_of (file_checks s 0) (header_of s).counts ≡ H.Read c.in-Read.c
+passed c = sym c.check_file-h.ensures ∙ c.in-Read.is
 
 -- and the tables have room, or not
-room : (c : tie.After-too-short) (b : Bool) → c.too_short.result ≡ b
-    → fewer (counts_of (lent (start c.before.before.before.before))) c.before.before.h.given.0.0 ≡ b
+room : (c : tie.After-too_short) (b : Bool) → c.too_short.result ≡ b
+    → fewer (counts_of (lent (start c.before.before))) c.in-Read.c ≡ b
 unfolding counts_of
 room c b e = sym c.too_short.ensures ∙ e
 
-returns-2 : tie.Need-returns-2
+returns-2 : tie.Need-returns-then-too_short
 returns-2 c =
-    let short = c.before.before in
-    let check = short.before.before.before.before in
-    let s = (start check).args.bytes.now in
-    let t = lent (start check) in
-    let r = tables_refused s t _ (passed short.before) (room short _ c.before.if1.true) in
-    let answer = c.answer-of2.ensures ∙ r.answer in
-    (answer, (r.output, promised_bytes s t _ _ answer r.output (bytes check)))
+    let s = (start c.before.before.before.before).args.bytes.now in
+    let t = lent (start c.before.before.before.before) in
+    let r = tables_refused s t _ (passed c.before.before.before) (room c.before.before _ c.if-too_short.true) in
+    let answer = c.answer_of-then-too_short.ensures ∙ r.answer in
+    (answer, (r.output, promised_bytes s t _ _ answer r.output (bytes c.before.before.before.before)))
 
-store-tables-requires : tie.Need-store-tables-requires
+store-tables-requires : tie.Need-store_tables-requires
 store-tables-requires c κs =
-    let at-if = c.before.before.before.before.before in
-    let short = at-if.before in
-    let check = short.before.before.before.before in
-    let s = (start check).args.bytes.now in
-    let t = lent (start check) in
-    (counts_read s t _ (passed short.before), accepted_reading s t _ (passed short.before) (room short _ at-if.if1.false))
+    let s = (start c.before.before.before.before.before.before.before.before).args.bytes.now in
+    let t = lent (start c.before.before.before.before.before.before.before.before) in
+    (counts_read s t _ (passed c.before.before.before.before.before.before.before), accepted_reading s t _ (passed c.before.before.before.before.before.before.before) (room c.before.before.before.before.before.before _ c.if-too_short.false))
 
 -- the tables as they were stored
-abbrev after_store : tie.After-points → tie.After-store-tables
+abbrev after_store : tie.After-points-1 → tie.After-store_tables
 after_store c = c.before.before.before.before.before.before.before.before
 
-returns-3 : tie.Need-returns-3
+returns-3 : tie.Need-returns
 returns-3 c =
     let store = after_store c.before.before in
     let at-if = store.before.before.before.before.before.before in
@@ -76,8 +70,8 @@ returns-3 c =
     let s = (start check).args.bytes.now in
     let t = lent (start check) in
     let free = room short _ at-if.if1.left in
-    let answer = c.answer-of3.ensures ∙ accepted_answer s t _ (passed short.before) free in
-    let output = store.store-tables.ensures ∙ accepted_output s t _ (passed short.before) free in
+    let answer = c.answer_of-2.ensures ∙ accepted_answer s t _ (passed short.before) free in
+    let output = store.store_tables.ensures ∙ accepted_output s t _ (passed short.before) free in
     (answer, (output, promised_bytes s t _ _ answer output (bytes check)))
 
 pub read_spec : {M : Type 1} → statement M

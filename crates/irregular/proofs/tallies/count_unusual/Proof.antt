@@ -13,30 +13,26 @@ use Rattle.irregular.proofs.Keeping.{Keeping, keep_start, range_hit, range_miss,
 use Rattle.irregular.proofs.tallies.count_unusual.Statement.{statement}
 use Rattle.irregular.proofs.tallies.count_unusual.Tie as tie
 
-abbrev invariant-loop : tie.invariant-loop
+abbrev invariant-loop : tie.invariant-loop-v
 invariant-loop w n count₀ v₀ count v = Keeping (unusual n w) (up_from 0 n) v count
 
-abbrev decreases-loop : tie.decreases-loop
+abbrev decreases-loop : tie.decreases-loop-v
 decreases-loop w n count₀ v₀ count v = n - v
 
 -- what is tested
 tested : (c : tie.After-regular invariant-loop decreases-loop) →
-    let l = c.before.before.before in
-    let a = l.before.before.before.args in
-    unusual a.n a.w.now l.before.loop.v ≡ not (eqb (get_or a.w.now (a.n + l.before.loop.v) 0) c.regular.result)
+    let a = c.args in
+    unusual a.n a.w.now c.loop-v.v ≡ not (eqb (get_or a.w.now (a.n + c.loop-v.v) 0) c.regular.result)
 tested c =
-    let l = c.before.before.before in
-    let a = l.before.before.before.args in
-    ap (λ k. not (eqb (get_or a.w.now (a.n + l.before.loop.v) 0) k)) (sym c.regular.ensures)
+    let a = c.args in
+    ap (λ k. not (eqb (get_or a.w.now (a.n + c.loop-v.v) 0) k)) (sym c.regular.ensures)
 
-loop-again : tie.Need-loop-preserved invariant-loop decreases-loop
+loop-again : tie.Need-loop-v-preserved invariant-loop decreases-loop
 loop-again c =
-    let t = c.before in
-    let l = t.before.before.before in
     ⊎_elim
-    (λ w. rw w.1 (range_hit _ _ l.before.loop.invariant l.loop-test.true (tested t ∙ ap not (ne_eqb _ _ w.0.taken))))
-    (λ w. rw w.1 (range_miss _ _ l.before.loop.invariant l.loop-test.true (tested t ∙ ap not (eq-eqb _ _ w.0.left))))
-    c.if1.branch
+    (λ w. rw w.1 (range_hit _ _ c.loop-v.invariant c.loop-v-test.true (tested c.before ∙ ap not (ne_eqb _ _ w.0.taken))))
+    (λ w. rw w.1 (range_miss _ _ c.loop-v.invariant c.loop-v-test.true (tested c.before ∙ ap not (eq-eqb _ _ w.0.left))))
+    c.if-w-at.branch
 
 pub count_unusual_spec : {M : Type 1} → statement M
 count_unusual_spec =
@@ -50,9 +46,9 @@ count_unusual_spec =
     (λ c. omega arith)
     (λ c. omega arith)
     (λ c. omega arith)
-    (λ c κs. let l = c.before.before in l.before.before.before.requires.1 l.before.loop.v l.loop-test.true)
+    (λ c κs. c.requires.1 c.loop-v.v c.loop-v-test.true)
     (λ c. omega arith)
     (λ c. omega arith)
     (λ c. omega arith)
     loop-again
-    (λ c. range_end _ _ c.before.loop.invariant c.loop-test.false))
+    (λ c. range_end _ _ c.loop-v.invariant c.loop-v-test.false))

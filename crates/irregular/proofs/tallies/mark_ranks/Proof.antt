@@ -6,11 +6,7 @@ use Rattle.irregular.proofs.tallies.mark_ranks.Tie as tie
 
 returns : tie.Need-returns
 returns c =
-    let p = c.before.before in
-    let s = p.before.before.before.before in
-    let q = s.before.before.before.before in
-    let a = q.before.before.before.before.before.before in
-    ranked_all {ps = a.args.points.now} {w₃ = p.mark3.new.0} q.mark.ensures s.mark2.ensures p.mark3.ensures a.requires
+    ranked_all {ps = c.args.points.now} {w₃ = c.mark-3.new.w} c.mark.ensures c.mark-2.ensures c.mark-3.ensures c.requires
 
 pub mark_ranks_spec : {M : Type 1} → statement M
 mark_ranks_spec = tie.close (tie.spec (λ c κs. search rules) (λ c κs. search rules) (λ c κs. search rules) (λ c. search rules) returns)

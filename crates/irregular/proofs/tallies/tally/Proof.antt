@@ -10,53 +10,46 @@ use Rattle.irregular.proofs.Counts.{tally_start, tally_hit, tally_miss, tally_fi
 use Rattle.irregular.proofs.tallies.tally.Statement.{statement}
 use Rattle.irregular.proofs.tallies.tally.Tie as tie
 
-abbrev invariant-loop : tie.invariant-loop
+abbrev invariant-loop : tie.invariant-loop-i
 invariant-loop w₀ first n rank table i₀ w i = Tallied first n rank (take i table) w₀ w
 
-abbrev decreases-loop : tie.decreases-loop
+abbrev decreases-loop : tie.decreases-loop-i
 decreases-loop w₀ first n rank table i₀ w i = length table - i
 
 -- the corner's place
-abbrev place : tie.In-loop invariant-loop decreases-loop → ℕ
-place l = let s = l.before.before in get_or s.args.table.now l.before.loop.i 0 - s.args.first
+abbrev place : tie.In-loop-i invariant-loop decreases-loop → ℕ
+place l = get_or l.args.table.now l.loop-i.i 0 - l.args.first
 
 -- in the window it is that of a vertex, and its count stands within the memory
-below : (c : tie.Then2 invariant-loop decreases-loop) → let l = c.before.before.before in place l < l.before.before.args.n
-below c = let l = c.before.before.before in ltb-true (place l) l.before.before.args.n c.if2.true
+below : (c : tie.Then-v-first invariant-loop decreases-loop) → place c.before.before.before < c.args.n
+below c = ltb-true (place c.before.before.before) c.args.n c.if-v-first.true
 
-inside : (c : tie.Then2 invariant-loop decreases-loop) →
-    let l = c.before.before.before in
-    l.before.before.args.n + place l < length l.before.loop.w
-inside c = let l = c.before.before.before in omega (arith, below c, l.before.loop.invariant.kept, l.before.before.requires.0)
+inside : (c : tie.Then-v-first invariant-loop decreases-loop) →
+    c.args.n + place c.before.before.before < length c.loop-i.w
+inside c = omega (arith, below c, c.loop-i.invariant.kept, c.requires.0)
 
-fits : (c : tie.Then3 invariant-loop decreases-loop) →
-    let l = c.before.before.before.before.before in
-    get_or l.before.loop.w (l.before.before.args.n + place l) 0 + 1 < 2 ^ 32
+fits : (c : tie.Then-rank-w invariant-loop decreases-loop) →
+    get_or c.loop-i.w (c.args.n + place c.before.before.before.before.before) 0 + 1 < 2 ^ 32
 fits c =
-    let t = c.before.before in
-    let l = t.before.before.before in
-    let s = l.before.before in
-    tally_fits s.args.table.now l.before.loop.i l.before.loop.invariant l.loop-test.true (place l) (omega (arith, t.before.if1.true)) (below t) (s.requires.1 (place l) (below t))
+    tally_fits c.args.table.now c.loop-i.i c.loop-i.invariant c.loop-i-test.true (place c.before.before.before.before.before) (omega (arith, c.if-first-v.true)) (below c.before.before) (c.requires.1 (place c.before.before.before.before.before) (below c.before.before))
 
-loop-again : tie.Need-loop-preserved invariant-loop decreases-loop
+loop-again : tie.Need-loop-i-preserved invariant-loop decreases-loop
 loop-again c =
-    let l = c.before.before in
-    let s = l.before.before in
-    let n = s.args.n in
-    let at = l.before.loop.invariant in
-    let here = get_or l.before.loop.w (place l) 0 in
+    let n = c.args.n in
+    let at = c.loop-i.invariant in
+    let here = get_or c.loop-i.w (place c.before.before) 0 in
     ⊎_elim
     (λ w. rw w.5
-    (tally_hit s.args.table.now l.before.loop.i at l.loop-test.true (place l) (omega (arith, w.0.taken)) (ltb-true (place l) n w.1.taken) s.requires.0 (eqb-true s.args.rank here w.3.taken)))
+    (tally_hit c.args.table.now c.loop-i.i at c.loop-i-test.true (place c.before.before) (omega (arith, w.0.taken)) (ltb-true (place c.before.before) n w.1.taken) c.requires.0 (eqb-true c.args.rank here w.3.taken)))
     (λ w. rw w.1
-    (tally_miss s.args.table.now l.before.loop.i at l.loop-test.true
+    (tally_miss c.args.table.now c.loop-i.i at c.loop-i-test.true
     (λ v k e r. ⊎_elim
     (λ t.
-    let same : v ≡ place l = omega (arith, t.0.taken) in
-    eqb-false s.args.rank here t.3.left (r ∙ ap (λ (u : ℕ). get_or l.before.loop.w u 0) same))
-    (⊎_elim (λ t. omega (arith, t.0.taken, ltb-false (place l) n t.1.left)) (λ t. omega (arith, t.left)))
+    let same : v ≡ place c.before.before = omega (arith, t.0.taken) in
+    eqb-false c.args.rank here t.3.left (r ∙ ap (λ (u : ℕ). get_or c.loop-i.w u 0) same))
+    (⊎_elim (λ t. omega (arith, t.0.taken, ltb-false (place c.before.before) n t.1.left)) (λ t. omega (arith, t.left)))
     w.0.came)))
-    c.if1.branch
+    c.if-first-v.branch
 
 pub tally_spec : {M : Type 1} → statement M
 tally_spec =
@@ -67,16 +60,16 @@ tally_spec =
     (λ c. tally_start c.args.first c.args.n c.args.rank c.args.w.now c.args.table.now)
     (λ c. omega arith)
     (λ c. omega arith)
-    (λ c. omega (arith, c.shared-slice-known.given c.before.before.loop.i))
-    (λ c. omega (arith, inside c, c.before.before.before.before.loop.invariant.kept, c.before.before.before.before.before.well-formed.0.1))
+    (λ c. omega (arith, c.shared_slice_known-1.given c.loop-i.i))
+    (λ c. omega (arith, inside c, c.loop-i.invariant.kept, c.well_formed.0.1))
     (λ c. omega (arith, inside c.before))
-    (λ c. let t = c.before.before in omega (arith, inside t, t.before.before.before.before.loop.invariant.kept, t.before.before.before.before.before.well-formed.0.1))
-    (λ c. let t = c.before.before in omega (arith, inside t, t.before.before.before.before.loop.invariant.kept, t.before.before.before.before.before.well-formed.0.1))
+    (λ c. omega (arith, inside c.before.before, c.loop-i.invariant.kept, c.well_formed.0.1))
+    (λ c. omega (arith, inside c.before.before, c.loop-i.invariant.kept, c.well_formed.0.1))
     (λ c. omega (arith, inside c.before.before.before))
     (λ c. omega (arith, fits c.before))
     (λ c. omega (arith, inside c.before.before.before))
     (λ c. omega arith)
     (λ c. omega arith)
     loop-again
-    (λ c. c.before.loop.invariant.kept)
-    (λ c. tally_end _ _ c.before.loop.invariant c.loop-test.false))
+    (λ c. c.loop-i.invariant.kept)
+    (λ c. tally_end _ _ c.loop-i.invariant c.loop-i-test.false))

@@ -5,21 +5,19 @@ use Rattle.stored.specs.Fields.{breaks, field_under}
 use Rattle.stored.proofs.fields.read_field.Statement.{statement}
 use Rattle.stored.proofs.fields.read_field.Tie as tie
 
-returns : tie.Need-returns
+returns : tie.Need-returns-then-v-rule
 unfolding field_under breaks
-returns c = rw (← c.before.before.get-field.ensures, lt-ltb _ _ c.if1.true)
+returns c = rw (← c.get_field-v.ensures, lt-ltb _ _ c.if-v-rule.true)
 
-returns-2 : tie.Need-returns-2
+returns-2 : tie.Need-returns-then-rule-v
 unfolding field_under breaks
 returns-2 c =
-    let at_1 = c.before.before in
-    rw (← at_1.before.before.get-field.ensures, le-ltb _ _ at_1.if1.false, lt-ltb _ _ c.if2.true)
+    rw (← c.get_field-v.ensures, le-ltb _ _ c.if-v-rule.false, lt-ltb _ _ c.if-rule-v.true)
 
-returns-3 : tie.Need-returns-3
+returns-3 : tie.Need-returns
 unfolding field_under breaks
 returns-3 c =
-    let at_1 = c.before.before in
-    rw (← at_1.before.before.get-field.ensures, le-ltb _ _ at_1.if1.false, le-ltb _ _ c.if2.false)
+    rw (← c.get_field-v.ensures, le-ltb _ _ c.if-v-rule.false, le-ltb _ _ c.if-rule-v.false)
 
 pub read_field_spec : {M : Type 1} → statement M
 read_field_spec =

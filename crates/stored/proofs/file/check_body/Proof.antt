@@ -11,83 +11,68 @@ use Rattle.stored.proofs.BodyChecks.{spare_rule, corner_rule, Body, body_known, 
 use Rattle.stored.proofs.file.check_body.Statement.{statement}
 use Rattle.stored.proofs.file.check_body.Tie as tie
 
-layout-of-requires : tie.Need-layout-of-requires
+layout-of-requires : tie.Need-layout_of-at-requires
 layout-of-requires c κs =
-    let start = c.before in
-    subst (λ (d : Counts). out_of_range d ≡ false) start.requires.1 (header_accepted start.args.s.now 0 start.requires.0).0.range
+    subst (λ (d : Counts). out_of_range d ≡ false) c.requires.1 (header_accepted c.args.s.now 0 c.requires.0).0.range
 
 -- what is known behind the header
-body : (c : tie.After-layout-of) → let a = c.before.before.args in Body a.s.now a.c c.layout_of.result
+body : (c : tie.After-layout_of-at) → let a = c.args in Body a.s.now a.c c.layout_of-at.result
 body c =
-    let start = c.before.before in
-    let a = start.args in
-    body_known a.s.now a.c c.layout_of.result (header_accepted a.s.now 0 start.requires.0).0 start.requires.1 c.layout_of.ensures
+    let a = c.args in
+    body_known a.s.now a.c c.layout_of-at.result (header_accepted a.s.now 0 c.requires.0).0 c.requires.1 c.layout_of-at.ensures
 
-returns : tie.Need-returns
-returns c = sym (wrong_length_lem (body c.before.before) c.if1.true)
+returns : tie.Need-returns-then-s-at
+returns c = sym (wrong_length_lem (body c.before.before) c.if-s-at.true)
 
-mul-t8 : tie.Need-overflow-mul-t8
+mul-t8 : tie.Need-overflow_mul-spare
 mul-t8 c = omega (arith, (body c.before.before.before).numbers)
 
-sub-t10 : tie.Need-overflow-sub-t10
+sub-t10 : tie.Need-overflow_sub-spare
 sub-t10 c = (body c.before.before.before.before).numbers.fits
 
-cast-t11 : tie.Need-overflow-cast-t11
+cast-t11 : tie.Need-overflow_cast-spare
 cast-t11 c = omega (arith, (body c.before.before.before.before).numbers)
 
-read-field-requires : tie.Need-read-field-requires
-read-field-requires c κs = omega (arith, (body c.before.before.before.before).numbers, c.before.before.if1.false)
+read-field-requires : tie.Need-read_field-f-requires
+read-field-requires c κs = omega (arith, (body c.before.before.before.before).numbers, c.if-s-at.false)
 
 -- the two reads, by their rules
-spare-read : (c : tie.After-read-field)
-    → let at-layout = c.before.before.before.before.before in
-    let at = at-layout.layout_of.result in
-    c.read-field.result ≡ field_under at-layout.before.before.args.s.now at.end (spare_rule at)
-spare-read c = c.read-field.ensures
+spare-read : (c : tie.After-read_field-f)
+    → let at = c.layout_of-at.result in
+    c.read_field-f.result ≡ field_under c.args.s.now at.end (spare_rule at)
+spare-read c = c.read_field-f.ensures
 
-row_read : (c : tie.After-read-fields)
-    → let at-layout = c.before.before.before.before.before.before.before.before.before in
-    let at = at-layout.layout_of.result in
-    let a = at-layout.before.before.args in
-    c.read-fields.result ≡ fields_under a.s.now at.hexes (corner_rule at a.c) at.corners
-row_read c = c.read-fields.ensures
+row_read : (c : tie.After-read_fields-g)
+    → let at = c.layout_of-at.result in
+    let a = c.args in
+    c.read_fields-g.result ≡ fields_under a.s.now at.hexes (corner_rule at a.c) at.corners
+row_read c = c.read_fields-g.ensures
 
-returns-2 : tie.Need-returns-2
+returns-2 : tie.Need-returns-in_default
 unfolding hand_on
 returns-2 c =
-    let told = c.before.enum-told2.given.1 in
-    let read = c.before.before.before in
-    let at-if = read.before.before.before in
+    let told = c.in_default.is in
     c.hand_on.ensures ∙ ap hand_on told
-    ∙ sym (spare_bit (body at-if.before.before) at-if.if1.false (sym (spare-read read) ∙ told))
+    ∙ sym (spare_bit (body c.before.before.before.before.before.before.before) c.if-s-at.false (sym (spare-read c.before.before) ∙ told))
 
-sub-t11 : tie.Need-overflow-sub-t11
-sub-t11 c = omega (arith, (body c.before.before.before.before.before.before.before.before).small.range.some)
+sub-t11 : tie.Need-overflow_sub-corner
+sub-t11 c = omega (arith, (body c.before.before.before.before.before.before.before).small.range.some)
 
-read-fields-requires : tie.Need-read-fields-requires
+read-fields-requires : tie.Need-read_fields-g-requires
 read-fields-requires c κs =
-    let at-if = c.before.before.before.before.before.before in
-    let b = body at-if.before.before in
-    omega (arith, b.numbers, b.small.width, at-if.if1.false)
+    let b = body c.before.before.before.before.before.before.before in
+    omega (arith, b.numbers, b.small.width, c.if-s-at.false)
 
-returns-3 : tie.Need-returns-3
+returns-3 : tie.Need-returns-in_default-g
 unfolding hand_on
 returns-3 c =
-    let told = c.before.enum-told4.given.1 in
-    let row = c.before.before.before in
-    let spare = row.before.before in
-    let read = spare.before.before in
-    let at-if = read.before.before.before in
-    c.hand-on2.ensures ∙ ap hand_on told
-    ∙ sym (corner (body at-if.before.before) at-if.if1.false (sym (spare-read read) ∙ spare.enum_told.given.1) (sym (row_read row) ∙ told))
+    let told = c.in_default-g.is in
+    c.hand_on-in_default-g.ensures ∙ ap hand_on told
+    ∙ sym (corner (body c.before.before.before.before.before.before.before.before.before.before) c.if-s-at.false (sym (spare-read c.before.before.before.before.before) ∙ c.in-Value.is) (sym (row_read c.before.before) ∙ told))
 
-returns-4 : tie.Need-returns-4
+returns-4 : tie.Need-returns
 returns-4 c =
-    let row = c.before.before in
-    let spare = row.before.before in
-    let read = spare.before.before in
-    let at-if = read.before.before.before in
-    sym (body_passed (body at-if.before.before) at-if.if1.false (sym (spare-read read) ∙ spare.enum_told.given.1) (sym (row_read row) ∙ c.enum-told3.given.1))
+    sym (body_passed (body c.before.before.before.before.before.before.before.before.before) c.if-s-at.false (sym (spare-read c.before.before.before.before) ∙ c.in-Value.is) (sym (row_read c.before) ∙ c.in-Value-g.is))
 
 pub check_body_spec : {M : Type 1} → statement M
 check_body_spec =

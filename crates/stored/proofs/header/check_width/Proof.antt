@@ -13,41 +13,39 @@ use Rattle.stored.proofs.HeaderChecks.{width_read}
 use Rattle.stored.proofs.header.check_width.Statement.{statement}
 use Rattle.stored.proofs.header.check_width.Tie as tie
 
-abbrev start : tie.After-struct-known → tie.Start
+abbrev start : tie.After-struct_known-1 → tie.Start
 start c = c.before.before
 
 known : (c : tie.Start) → CountsAccepted c.args.s.now
 known c = (counts_accepted c.args.s.now 0 c.requires.0).0
 
-sub-index-width : tie.Need-overflow-sub-index-width
+sub-index-width : tie.Need-overflow_sub-c
 sub-index-width c =
     let s = start c in
-    subst (λ (n : Counts). 1 ≤ n.vertices) s.pre.1 (in_range_lem _ (known s).range).some
+    subst (λ (n : Counts). 1 ≤ n.vertices) s.requires.1 (in_range_lem _ (known s).range).some
 
-read-field-requires : tie.Need-read-field-requires
+read-field-requires : tie.Need-read_field-f-requires
 read-field-requires c κs = omega (arith, (known (start c.before)).long)
 
 -- the read, by its rule
-read : (c : tie.After-read-field)
-    → let a = (start c.before.before).args in c.read-field.result ≡ field_under a.s.now 4 (width_rule (index_width a.c))
+read : (c : tie.After-read_field-f)
+    → let a = (start c.before.before).args in c.read_field-f.result ≡ field_under a.s.now 4 (width_rule (index_width a.c))
 unfolding index_width
 read c =
     let a = (start c.before.before).args in
-    c.read-field.ensures ∙ ap (λ w. field_under a.s.now 4 (width_rule w)) c.before.index-width.ensures
+    c.read_field-f.ensures ∙ ap (λ w. field_under a.s.now 4 (width_rule w)) c.index_width-w.ensures
 
-returns : tie.Need-returns
+returns : tie.Need-returns-in_default
 unfolding hand_on
 returns c =
-    let told = c.before.enum-told2.given.1 in
-    let r = c.before.before.before in
-    let s = start r.before.before in
-    c.hand_on.ensures ∙ ap hand_on told ∙ sym (rw (sym (read r) ∙ told)) ∙ width_read s.args.s.now s.args.c s.pre.1
+    let told = c.in_default.is in
+    let s = start c.before.before.before.before in
+    c.hand_on.ensures ∙ ap hand_on told ∙ sym (rw (sym (read c.before.before) ∙ told)) ∙ width_read s.args.s.now s.args.c s.requires.1
 
-returns-2 : tie.Need-returns-2
+returns-2 : tie.Need-returns
 returns-2 c =
-    let r = c.before.before in
-    let s = start r.before.before in
-    sym (rw (sym (read r) ∙ c.enum_told.given.1)) ∙ width_read s.args.s.now s.args.c s.pre.1
+    let s = start c.before.before.before in
+    sym (rw (sym (read c.before) ∙ c.in-Value.is)) ∙ width_read s.args.s.now s.args.c s.requires.1
 
 pub check_width_spec : {M : Type 1} → statement M
 check_width_spec =

@@ -5,16 +5,16 @@ use Rattle.stored.specs.Fields.{hand_on}
 use Rattle.stored.proofs.header.hand_on.Statement.{statement}
 use Rattle.stored.proofs.header.hand_on.Tie as tie
 
-enum_told : tie.Need-enum-told
+enum_told : tie.Need-enum_told-1
 enum_told c = search rules
 
-returns : tie.Need-returns
+returns : tie.Need-returns-in-Value
 unfolding hand_on
-returns c = sym (ap hand_on c.enum_told.given.1)
+returns c = sym (ap hand_on c.in-Value.is)
 
-returns-2 : tie.Need-returns-2
+returns-2 : tie.Need-returns-in-Refused
 unfolding hand_on
-returns-2 c = sym (ap hand_on c.before.f.given.1)
+returns-2 c = sym (ap hand_on c.in-Refused.is)
 
 pub hand_on_spec : {M : Type 1} → statement M
 hand_on_spec = tie.close (tie.spec enum_told (λ c. search rules) returns returns-2)

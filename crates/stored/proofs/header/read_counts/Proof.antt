@@ -12,58 +12,52 @@ use Rattle.stored.proofs.HeaderChecks.{header_read}
 use Rattle.stored.proofs.header.read_counts.Statement.{statement}
 use Rattle.stored.proofs.header.read_counts.Tie as tie
 
-returns : tie.Need-returns
+returns : tie.Need-returns-then-s-lt13
 unfolding header_cut
-returns c = rw (lt-ltb (length c.before.before.args.s.now) 13 (omega arith))
+returns c = rw (lt-ltb (length c.args.s.now) 13 (omega arith))
 
-long : (c : tie.Else1) → 13 ≤ length c.before.before.args.s.now
+long : (c : tie.Else-s-lt13) → 13 ≤ length c.args.s.now
 long c = omega arith
 
 -- ---- the reads, by their rules
 
-form-read : (c : tie.After-read-field) → c.read-field.result ≡ field_under c.before.before.before.args.s.now 0 form_rule
-form-read c = c.read-field.ensures
+form-read : (c : tie.After-read_field-f0) → c.read_field-f0.result ≡ field_under c.args.s.now 0 form_rule
+form-read c = c.read_field-f0.ensures
 
 -- the read of the form number before that of the count of vertices
-abbrev first : tie.After-read-field2 → tie.After-read-field
-first c = c.before.before.before
+abbrev first : tie.After-read_field-f1 → tie.After-read_field-f0
+first c = c.before.before
 
-vertices-read : (c : tie.After-read-field2) → c.read-field2.result ≡ field_under (first c).before.before.before.args.s.now 9 vertex_rule
-vertices-read c = c.read-field2.ensures
+vertices-read : (c : tie.After-read_field-f1) → c.read_field-f1.result ≡ field_under (first c).args.s.now 9 vertex_rule
+vertices-read c = c.read_field-f1.ensures
 
-returns-2 : tie.Need-returns-2
+returns-2 : tie.Need-returns-in_default
 unfolding hand_on
 returns-2 c =
-    let told = c.before.enum-told2.given.1 in
-    let r0 = c.before.before.before in
-    let else1 = r0.before in
-    c.hand_on.ensures ∙ ap hand_on told ∙ sym (rw (sym (form-read r0) ∙ told))
-    ∙ header_read else1.before.before.args.s.now (long else1)
+    let told = c.in_default.is in
+    c.hand_on.ensures ∙ ap hand_on told ∙ sym (rw (sym (form-read c.before.before) ∙ told))
+    ∙ header_read c.args.s.now (long c.before.before.before)
 
-returns-3 : tie.Need-returns-3
+returns-3 : tie.Need-returns-in_default-f1
 unfolding hand_on
 returns-3 c =
-    let told = c.before.enum-told3.given.1 in
-    let r1 = c.before.before.before in
-    let r0 = first r1 in
+    let told = c.in_default-f1.is in
+    let r0 = first c.before.before in
     let else1 = r0.before in
-    c.hand-on2.ensures ∙ ap hand_on told
-    ∙ sym (rw (sym (form-read r0) ∙ r1.before.enum_told.given.1, sym (vertices-read r1) ∙ told))
+    c.hand_on-in_default-f1.ensures ∙ ap hand_on told
+    ∙ sym (rw (sym (form-read r0) ∙ c.in-Value.is, sym (vertices-read c.before.before) ∙ told))
     ∙ header_read else1.before.before.args.s.now (long else1)
 
-read-cell-counts-requires : tie.Need-read-cell-counts-requires
+read-cell-counts-requires : tie.Need-read_cell_counts-requires
 read-cell-counts-requires c κs =
-    let r1 = c.before.before.before in
-    ((field_kept (sym (vertices-read r1) ∙ c.before.f1.given.1)).next, long (first r1).before)
+    ((field_kept (sym (vertices-read c.before) ∙ c.in-Value-f1.is)).next, long (first c.before).before)
 
-returns-4 : tie.Need-returns-4
+returns-4 : tie.Need-returns
 returns-4 c =
-    let f1 = c.before.before in
-    let r1 = f1.before.before in
-    let r0 = first r1 in
+    let r0 = first c.before.before in
     let else1 = r0.before in
-    c.read-cell-counts.ensures
-    ∙ sym (rw (sym (form-read r0) ∙ r1.before.enum_told.given.1, sym (vertices-read r1) ∙ f1.f1.given.1))
+    c.read_cell_counts.ensures
+    ∙ sym (rw (sym (form-read r0) ∙ c.in-Value.is, sym (vertices-read c.before.before) ∙ c.in-Value-f1.is))
     ∙ header_read else1.before.before.args.s.now (long else1)
 
 pub read_counts_spec : {M : Type 1} → statement M

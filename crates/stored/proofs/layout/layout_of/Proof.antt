@@ -10,68 +10,68 @@ use Rattle.stored.proofs.Bounds.{Small, small}
 use Rattle.stored.proofs.layout.layout_of.Statement.{statement}
 use Rattle.stored.proofs.layout.layout_of.Tie as tie
 
-bounds : (c : tie.After-index-width) → Small c.index-width.result c.before.before.args.c
+bounds : (c : tie.After-index_width-width) → Small c.index_width-width.result c.args.c
 unfolding index_width
-bounds c = let start = c.before.before in small c.index-width.result start.args.c start.requires c.index-width.ensures
+bounds c = small c.index_width-width.result c.args.c c.requires c.index_width-width.ensures
 
-sub-index-width : tie.Need-overflow-sub-index-width
-sub-index-width c = omega (arith, (in_range_lem c.before.args.c c.before.requires).some)
+sub-index-width : tie.Need-overflow_sub-c
+sub-index-width c = omega (arith, (in_range_lem c.args.c c.requires).some)
 
-mul-quads-2 : tie.Need-overflow-mul-quads-2
+mul-quads-2 : tie.Need-overflow_mul-quads-2
 mul-quads-2 c = omega (arith, bounds c.before.before)
 
-add-quads : tie.Need-overflow-add-quads
+add-quads : tie.Need-overflow_add-quads
 add-quads c = omega (arith, bounds c.before.before)
 
-mul-segments-2 : tie.Need-overflow-mul-segments-2
+mul-segments-2 : tie.Need-overflow_mul-segments-2
 mul-segments-2 c = omega (arith, bounds c.before.before.before)
 
-add-segments : tie.Need-overflow-add-segments
+add-segments : tie.Need-overflow_add-segments
 add-segments c = omega (arith, bounds c.before.before.before)
 
-mul-points-2 : tie.Need-overflow-mul-points-2
+mul-points-2 : tie.Need-overflow_mul-points-2
 mul-points-2 c = omega (arith, bounds c.before.before.before.before)
 
-add-points : tie.Need-overflow-add-points
+add-points : tie.Need-overflow_add-points
 add-points c = omega (arith, bounds c.before.before.before.before)
 
-mul-end : tie.Need-overflow-mul-end
+mul-end : tie.Need-overflow_mul-end
 mul-end c = omega (arith, bounds c.before.before.before.before.before)
 
-add-end : tie.Need-overflow-add-end
+add-end : tie.Need-overflow_add-end
 add-end c = omega (arith, bounds c.before.before.before.before.before)
 
-mul-corners : tie.Need-overflow-mul-corners
+mul-corners : tie.Need-overflow_mul-corners
 mul-corners c = omega (arith, bounds c.before.before.before.before.before.before)
 
-mul-corners-2 : tie.Need-overflow-mul-corners-2
+mul-corners-2 : tie.Need-overflow_mul-corners-2
 mul-corners-2 c = omega (arith, bounds c.before.before.before.before.before.before.before)
 
-mul-corners-3 : tie.Need-overflow-mul-corners-3
+mul-corners-3 : tie.Need-overflow_mul-corners-3
 mul-corners-3 c = omega (arith, bounds c.before.before.before.before.before.before.before.before)
 
 -- the last place
-abbrev at-end : (c : tie.After-struct-known10) → tie.After-index-width
+abbrev at-end : (c : tie.After-struct_known-10-1) → tie.After-index_width-width
 at-end c = c.before.before.before.before.before.before.before.before.before
 
-add-corners : tie.Need-overflow-add-corners
+add-corners : tie.Need-overflow_add-corners
 add-corners c = omega (arith, bounds (at-end c))
 
-add-corners-2 : tie.Need-overflow-add-corners-2
+add-corners-2 : tie.Need-overflow_add-corners-2
 add-corners-2 c = omega (arith, bounds (at-end c))
 
-add-corners-3 : tie.Need-overflow-add-corners-3
+add-corners-3 : tie.Need-overflow_add-corners-3
 add-corners-3 c = omega (arith, bounds (at-end c))
 
-add-bytes : tie.Need-overflow-add-bytes
+add-bytes : tie.Need-overflow_add-bytes
 add-bytes c = omega (arith, bounds (at-end c))
 
 returns : tie.Need-returns
 unfolding index_width layout bytes_for
 returns c =
     let at = at-end c in
-    let width = at.index-width.ensures in
-    let of : ℕ → Header = λ w. record { form = 1; width = w; counts = at.before.before.args.c } in
+    let width = at.index_width-width.ensures in
+    let of : ℕ → Header = λ w. record { form = 1; width = w; counts = at.args.c } in
     record {
       width = width;
       hexes = refl;

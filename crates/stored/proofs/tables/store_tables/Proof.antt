@@ -12,70 +12,62 @@ use Rattle.stored.proofs.Storing.{Storable, storable, stored_tables}
 use Rattle.stored.proofs.tables.store_tables.Statement.{statement}
 use Rattle.stored.proofs.tables.store_tables.Tie as tie
 
-layout-of-requires : tie.Need-layout-of-requires
+layout-of-requires : tie.Need-layout_of-at-requires
 layout-of-requires c κs =
-    let start = c.before.before.before.before.before in
-    let a = start.args in
+    let a = c.args in
     let lent = counts_of (mesh a.xs.now a.hexes.now a.quads.now a.segments.now a.points.now) in
-    subst (λ (d : Counts). out_of_range d ≡ false) start.requires.0 (reading_accepted a.s.now lent start.requires.1).0.head.range
+    subst (λ (d : Counts). out_of_range d ≡ false) c.requires.0 (reading_accepted a.s.now lent c.requires.1).0.head.range
 
-known : (c : tie.After-layout-of)
-    → let a = c.before.before.before.before.before.before.args in
-    Storable a.s.now a.c c.layout_of.result (mesh a.xs.now a.hexes.now a.quads.now a.segments.now a.points.now)
+known : (c : tie.After-layout_of-at)
+    → let a = c.args in
+    Storable a.s.now a.c c.layout_of-at.result (mesh a.xs.now a.hexes.now a.quads.now a.segments.now a.points.now)
 known c =
-    let start = c.before.before.before.before.before.before in
-    let a = start.args in
-    storable a.s.now a.c c.layout_of.result (mesh a.xs.now a.hexes.now a.quads.now a.segments.now a.points.now) start.requires.0 start.requires.1 c.layout_of.ensures
+    let a = c.args in
+    storable a.s.now a.c c.layout_of-at.result (mesh a.xs.now a.hexes.now a.quads.now a.segments.now a.points.now) c.requires.0 c.requires.1 c.layout_of-at.ensures
 
 -- the layout before each table
-abbrev at-0 : tie.After-get-coordinates → tie.After-layout-of
+abbrev at-0 : tie.After-get_coordinates → tie.After-layout_of-at
 at-0 c = c.before.before.before
 
-abbrev at_1 : tie.After-get-table → tie.After-layout-of
+abbrev at_1 : tie.After-get_table → tie.After-layout_of-at
 at_1 c = at-0 c.before.before.before.before
 
-abbrev at-2 : tie.After-get-table2 → tie.After-layout-of
+abbrev at-2 : tie.After-get_table-2 → tie.After-layout_of-at
 at-2 c = at_1 c.before.before.before.before.before
 
-abbrev at-3 : tie.After-get-table3 → tie.After-layout-of
+abbrev at-3 : tie.After-get_table-3 → tie.After-layout_of-at
 at-3 c = at-2 c.before.before.before.before.before
 
-get-coordinates-requires : tie.Need-get-coordinates-requires
+get-coordinates-requires : tie.Need-get_coordinates-requires
 get-coordinates-requires c κs =
     let k = known c.before.before in
     omega (arith, k.body.numbers, k.long, k.room.vertices)
 
-get-table-requires : tie.Need-get-table-requires
+get-table-requires : tie.Need-get_table-requires
 get-table-requires c κs =
     let k = known (at-0 c.before.before.before) in
     omega (arith, k.body.numbers, k.body.small.width, k.long, k.room.hexes)
 
-get-table-requires-2 : tie.Need-get-table-requires-2
+get-table-requires-2 : tie.Need-get_table-requires-2
 get-table-requires-2 c κs =
     let k = known (at_1 c.before.before.before.before) in
     omega (arith, k.body.numbers, k.body.small.width, k.long, k.room.quads)
 
-get-table-requires-3 : tie.Need-get-table-requires-3
+get-table-requires-3 : tie.Need-get_table-requires-3
 get-table-requires-3 c κs =
     let k = known (at-2 c.before.before.before.before) in
     omega (arith, k.body.numbers, k.body.small.width, k.long, k.room.segments)
 
-get-table-requires-4 : tie.Need-get-table-requires-4
+get-table-requires-4 : tie.Need-get_table-requires-4
 get-table-requires-4 c κs =
     let k = known (at-3 c.before.before.before.before) in
     omega (arith, k.body.numbers, k.body.small.width, k.long, k.room.points)
 
 returns : tie.Need-returns
 returns c =
-    let points = c.before.before in
-    let segments = points.before.before.before.before.before in
-    let quads = segments.before.before.before.before.before in
-    let hexes = quads.before.before.before.before.before in
-    let vertices = hexes.before.before.before.before in
-    let at = vertices.before.before.before in
-    let a = at.before.before.before.before.before.before.args in
-    (λ i. mesh (vertices.get-coordinates.ensures i) (hexes.get-table.ensures i) (quads.get-table2.ensures i) (segments.get-table3.ensures i) (points.get-table4.ensures i))
-    ∙ stored_tables a.s.now a.c at.layout_of.result (mesh a.xs.now a.hexes.now a.quads.now a.segments.now a.points.now) (known at).body
+    let a = c.args in
+    (λ i. mesh (c.get_coordinates.ensures i) (c.get_table.ensures i) (c.get_table-2.ensures i) (c.get_table-3.ensures i) (c.get_table-4.ensures i))
+    ∙ stored_tables a.s.now a.c c.layout_of-at.result (mesh a.xs.now a.hexes.now a.quads.now a.segments.now a.points.now) (known c.before.before.before.before.before.before.before.before.before.before.before.before.before.before.before.before.before.before.before.before.before.before.before.before).body
 
 pub store_tables_spec : {M : Type 1} → statement M
 store_tables_spec =

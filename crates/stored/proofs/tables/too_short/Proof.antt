@@ -10,7 +10,7 @@ use Rattle.stored.proofs.tables.too_short.Tie as tie
 returns : tie.Need-returns
 unfolding counts_in
 returns c =
-    let a = c.before.before.before.before.before.before.args in
+    let a = c.args in
     c.fewer.ensures
     ∙ ap (λ (p : ℕ). fewer (record { vertices = a.xs / 3; hexes = a.hexes / 8; quads = a.quads / 4; segments = a.segments / 2; points = p }) a.c) (sym (div-one a.points))
 
