@@ -35,20 +35,18 @@ unfolding irregular_answer
 answered m n h e = rw (h, e)
 
 returns : tie.Need-returns-then-refusal-ne0
-returns c =
-    (
-      made c.answer.result c.check_mesh-checked.result.refusal 0 c.answer.ensures.0.0 c.answer.ensures.0.1
-          ∙ refused (mesh_of c.before.before.before.before.before.before.before.before.before.before.before.before.before.before) c.check_mesh-checked.result.refusal c.check_mesh-checked.ensures.refusal c.if-refusal-ne0.true,
-      c.answer.ensures.1 ∙ ap (λ (n : ℕ). replicate n 0) c.check_mesh-checked.auto.words,
-    )
+returns c = (
+  made c.answer.result c.check_mesh-checked.result.refusal 0 c.answer.ensures.0.0 c.answer.ensures.0.1
+      ∙ refused (mesh_of c.before.before.before.before.before.before.before.before.before.before.before.before.before.before) c.check_mesh-checked.result.refusal c.check_mesh-checked.ensures.refusal c.if-refusal-ne0.true,
+  c.answer.ensures.1 ∙ ap (λ (n : ℕ). replicate n 0) c.check_mesh-checked.auto.words,
+)
 
 returns-2 : tie.Need-returns
-returns-2 c =
-    (
-      made c.answer-2.result 0 c.count-count.result c.answer-2.ensures.0.0 c.answer-2.ensures.0.1
-          ∙ answered (mesh_of c.before.before.before.before.before.before.before.before.before.before.before.before.before.before.before.before.before.before) c.count-count.result (sym c.check_mesh-checked.ensures.refusal ∙ c.if-refusal-ne0.false) c.count-count.ensures,
-      c.answer-2.ensures.1 ∙ ap (λ (c.before.before.before.before.before.before : ℕ). replicate c.before.before.before.before.before.before 0) (c.count-count.auto.words ∙ c.check_mesh-checked.auto.words),
-    )
+returns-2 c = (
+  made c.answer-2.result 0 c.count-count.result c.answer-2.ensures.0.0 c.answer-2.ensures.0.1
+      ∙ answered (mesh_of c.before.before.before.before.before.before.before.before.before.before.before.before.before.before.before.before.before.before) c.count-count.result (sym c.check_mesh-checked.ensures.refusal ∙ c.if-refusal-ne0.false) c.count-count.ensures,
+  c.answer-2.ensures.1 ∙ ap (λ (n : ℕ). replicate n 0) (c.count-count.auto.words ∙ c.check_mesh-checked.auto.words),
+)
 
 pub irregular_count_spec : {M : Type 1} → statement M
 irregular_count_spec =

@@ -41,9 +41,9 @@ counts-of-requires : tie.Need-counts_of-c-requires
 unfolding counts_of
 counts-of-requires c κs = pass_range (whole (start c.before)) (accepted c)
 
-counts : (c : tie.After-counts_of-c) → c.Counts-of.result ≡ counts_of (whole (start c.before.before))
+counts : (c : tie.After-counts_of-c) → c.counts_of-c.result ≡ counts_of (whole (start c.before.before))
 unfolding counts_of
-counts c = c.Counts-of.ensures
+counts c = c.counts_of-c.ensures
 
 layout-of-requires : tie.Need-layout_of-at-requires
 layout-of-requires c κs = ap out_of_range (counts c) ∙ pass_range (whole (start c.before.before)) (accepted c.before)

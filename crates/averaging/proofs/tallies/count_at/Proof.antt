@@ -15,17 +15,17 @@ add-valence-2 c = omega (arith, (c.requires.1.0 0 (lit< tt)).few)
 add-x : tie.Need-overflow_add-x
 add-x c =
     let v = c.args.vertex in
-    record { fits = sum_fits c.args.words.now c.args.longs.now c.args.t3 v 0 (3 * v) (omega arith) (c.requires.1.0 0 (lit< tt)) (c.requires.1.1 0 (lit< tt)) }
+    record { fits = sum_fits c.args.words.now c.args.longs.now c.args.sums v 0 (3 * v) (omega arith) (c.requires.1.0 0 (lit< tt)) (c.requires.1.1 0 (lit< tt)) }
 
 add-y-2 : tie.Need-overflow_add-y-then-d-words
 add-y-2 c =
     let v = c.args.vertex in
-    record { fits = sum_fits c.args.words.now c.args.longs.now c.args.t3 v 1 (3 * v + 1) refl (c.requires.1.0 1 (lit< tt)) (c.requires.1.1 1 (lit< tt)) }
+    record { fits = sum_fits c.args.words.now c.args.longs.now c.args.sums v 1 (3 * v + 1) refl (c.requires.1.0 1 (lit< tt)) (c.requires.1.1 1 (lit< tt)) }
 
 add-z-2 : tie.Need-overflow_add-z-then-d-words
 add-z-2 c =
     let v = c.args.vertex in
-    record { fits = sum_fits c.args.words.now c.args.longs.now c.args.t3 v 2 (3 * v + 2) refl (c.requires.1.0 2 (lit< tt)) (c.requires.1.1 2 (lit< tt)) }
+    record { fits = sum_fits c.args.words.now c.args.longs.now c.args.sums v 2 (3 * v + 2) refl (c.requires.1.0 2 (lit< tt)) (c.requires.1.1 2 (lit< tt)) }
 
 returns : tie.Need-returns-then-d-words
 returns c =
@@ -35,7 +35,7 @@ returns c =
       changed = record {
         words_kept = e.words_kept;
         longs_kept = e.longs_kept;
-        each = λ x f h. e.each x f h ∙ counts a.words.now a.longs.now a.vertex a.d a.t3 c.if-d-words.true x f h;
+        each = λ x f h. e.each x f h ∙ counts a.words.now a.longs.now a.vertex a.d a.sums c.if-d-words.true x f h;
       };
       within = λ x f h. corner_within a.d _ a.vertex f (c.requires.1.1 x h);
     }
@@ -44,7 +44,7 @@ returns-2 : tie.Need-returns-else-d-words
 returns-2 c =
     let a = c.args in
     record {
-      changed = record { words_kept = refl; longs_kept = refl; each = λ x f h. counts_not a.words.now a.longs.now a.vertex a.d a.t3 c.if-d-words.false x f };
+      changed = record { words_kept = refl; longs_kept = refl; each = λ x f h. counts_not a.words.now a.longs.now a.vertex a.d a.sums c.if-d-words.false x f };
       within = λ x f h. corner_within a.d _ a.vertex f (c.requires.1.1 x h);
     }
 

@@ -15,7 +15,7 @@ use Rattle.averaging.proofs.tallies.store.Tie as tie
 returns : tie.Need-returns
 returns c =
     let v = c.args.vertex in
-    let s = c.args.t4 in
+    let s = c.args.sums in
     let w = c.args.words.now in
     let l = c.args.longs.now in
     let at : ℕ → ℕ = λ i. get_or s i 0 in

@@ -12,6 +12,7 @@ use Rattle.irregular.specs.Tallied.{unusual}
 use Rattle.irregular.proofs.Keeping.{Keeping, keep_start, range_hit, range_miss, range_end}
 use Rattle.irregular.proofs.tallies.count_unusual.Statement.{statement}
 use Rattle.irregular.proofs.tallies.count_unusual.Tie as tie
+use Rattle.irregular.proofs.tallies.count_unusual.Lts.{then-w-at, else-w-at}
 
 abbrev invariant-loop : tie.invariant-loop-v
 invariant-loop w n count₀ v₀ count v = Keeping (unusual n w) (up_from 0 n) v count
@@ -29,10 +30,10 @@ tested c =
 
 loop-again : tie.Need-loop-v-preserved invariant-loop decreases-loop
 loop-again c =
-    ⊎_elim
-    (λ w. rw w.1 (range_hit _ _ c.loop-v.invariant c.loop-v-test.true (tested c.before ∙ ap not (ne_eqb _ _ w.0.taken))))
-    (λ w. rw w.1 (range_miss _ _ c.loop-v.invariant c.loop-v-test.true (tested c.before ∙ ap not (eq-eqb _ _ w.0.left))))
-    c.if-w-at.branch
+    elim c.if-w-at.branch [
+      | then-w-at w ↦ rw w.count-is (range_hit _ _ c.loop-v.invariant c.loop-v-test.true (tested c.before ∙ ap not (ne_eqb _ _ w.if-w-at.true)))
+      | else-w-at w ↦ rw w.count-is (range_miss _ _ c.loop-v.invariant c.loop-v-test.true (tested c.before ∙ ap not (eq-eqb _ _ w.if-w-at.false)))
+    ]
 
 pub count_unusual_spec : {M : Type 1} → statement M
 count_unusual_spec =

@@ -9,6 +9,7 @@ use Rattle.irregular.specs.Tallied.{Tallied}
 use Rattle.irregular.proofs.Counts.{tally_start, tally_hit, tally_miss, tally_fits, tally_end}
 use Rattle.irregular.proofs.tallies.tally.Statement.{statement}
 use Rattle.irregular.proofs.tallies.tally.Tie as tie
+use Rattle.irregular.proofs.tallies.tally.Lts.{then-first-v+then-v-first+then-rank-w, else-first-v, else-first-v-via-then-first-v+then-v-first+else-rank-w, else-first-v-via-then-first-v+else-v-first, else-first-v-via-else-first-v}
 
 abbrev invariant-loop : tie.invariant-loop-i
 invariant-loop w₀ first n rank table i₀ w i = Tallied first n rank (take i table) w₀ w
@@ -22,7 +23,7 @@ place l = get_or l.args.table.now l.loop-i.i 0 - l.args.first
 
 -- in the window it is that of a vertex, and its count stands within the memory
 below : (c : tie.Then-v-first invariant-loop decreases-loop) → place c.before.before.before < c.args.n
-below c = ltb-true (place c.before.before.before) c.args.n c.if-v-first.true
+below c = c.if-v-first.true
 
 inside : (c : tie.Then-v-first invariant-loop decreases-loop) →
     c.args.n + place c.before.before.before < length c.loop-i.w
@@ -38,18 +39,21 @@ loop-again c =
     let n = c.args.n in
     let at = c.loop-i.invariant in
     let here = get_or c.loop-i.w (place c.before.before) 0 in
-    ⊎_elim
-    (λ w. rw w.5
-    (tally_hit c.args.table.now c.loop-i.i at c.loop-i-test.true (place c.before.before) (omega (arith, w.0.taken)) (ltb-true (place c.before.before) n w.1.taken) c.requires.0 (eqb-true c.args.rank here w.3.taken)))
-    (λ w. rw w.1
-    (tally_miss c.args.table.now c.loop-i.i at c.loop-i-test.true
-    (λ v k e r. ⊎_elim
-    (λ t.
-    let same : v ≡ place c.before.before = omega (arith, t.0.taken) in
-    eqb-false c.args.rank here t.3.left (r ∙ ap (λ (u : ℕ). get_or c.loop-i.w u 0) same))
-    (⊎_elim (λ t. omega (arith, t.0.taken, ltb-false (place c.before.before) n t.1.left)) (λ t. omega (arith, t.left)))
-    w.0.came)))
-    c.if-first-v.branch
+    elim c.if-first-v.branch [
+      | then-first-v+then-v-first+then-rank-w w ↦
+          rw w.w-is
+          (tally_hit c.args.table.now c.loop-i.i at c.loop-i-test.true (place c.before.before) (omega (arith, w.if-first-v.true)) w.if-v-first.true c.requires.0 w.if-rank-w.true)
+      | else-first-v w ↦
+          rw w.w-is
+          (tally_miss c.args.table.now c.loop-i.i at c.loop-i-test.true
+          (λ v k e r. elim w.else-first-v.branch [
+            | else-first-v-via-then-first-v+then-v-first+else-rank-w t ↦
+                let same : v ≡ place c.before.before = omega (arith, t.if-first-v.true) in
+                t.if-rank-w.false (r ∙ ap (λ (u : ℕ). get_or c.loop-i.w u 0) same)
+            | else-first-v-via-then-first-v+else-v-first t ↦ omega (arith, t.if-first-v.true, t.if-v-first.false)
+            | else-first-v-via-else-first-v t ↦ omega (arith, t.if-first-v.false)
+          ]))
+    ]
 
 pub tally_spec : {M : Type 1} → statement M
 tally_spec =

@@ -24,15 +24,15 @@ start c = (read-hexes c).before.before
 -- ---- where each read leaves the cursor
 
 at-quads : (c : tie.In-Value) → c.in-Value.c0.at ≡ 47
-at-quads c = (field_kept (sym (read-hexes c).read-field.ensures ∙ c.in-Value.is)).next ∙ omega (arith, (start c).requires.0)
+at-quads c = (field_kept (sym (read-hexes c).read_field-f0.ensures ∙ c.in-Value.is)).next ∙ omega (arith, (start c).requires.0)
 
 at-segments : (c : tie.In-Value-f1) → c.in-Value-f1.c1.at ≡ 65
 at-segments c =
-    (field_kept (sym (read-quads c).read-field2.ensures ∙ c.in-Value-f1.is)).next ∙ omega (arith, at-quads (read-quads c).before)
+    (field_kept (sym (read-quads c).read_field-f1.ensures ∙ c.in-Value-f1.is)).next ∙ omega (arith, at-quads (read-quads c).before)
 
 at-points : (c : tie.In-Value-f2) → c.in-Value-f2.c2.at ≡ 83
 at-points c =
-    (field_kept (sym (read-segments c).read-field3.ensures ∙ c.in-Value-f2.is)).next ∙ omega (arith, at-segments (read-segments c).before)
+    (field_kept (sym (read-segments c).read_field-f2.ensures ∙ c.in-Value-f2.is)).next ∙ omega (arith, at-segments (read-segments c).before)
 
 read-field-requires-2 : tie.Need-read_field-f1-requires
 read-field-requires-2 c κs = omega (arith, at-quads c, (start c).requires)
