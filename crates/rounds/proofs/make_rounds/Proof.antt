@@ -6,14 +6,14 @@ use Rattle.rounds.proofs.make_rounds.Statement.{statement}
 use Rattle.rounds.proofs.make_rounds.Tie as tie
 
 -- from the return back to the rounds, from there to the copy, and to the start
-abbrev turned : tie.After-slice-known24 → tie.After-turns
-turned c = let q = c.before.before.before.before.before.before.before.before in let r = q.before.before.before.before.before.before.before in r.before.before.before.before.before.before.before
+abbrev turned : tie.After-slice_known-24-1 → tie.After-turns
+turned c = c.before.before.before.before.before.before.before.before.before.before.before.before.before.before.before.before.before.before.before.before.before.before
 
-abbrev copied : tie.After-turns-arg12 → tie.After-copy
-copied c = let q = c.before.before.before.before.before.before.before in let r = q.before.before.before.before.before.before.before in r.before.before.before.before.before.before.before
+abbrev copied : tie.After-turns-arg-12-1 → tie.After-copy
+copied c = c.before.before.before.before.before.before.before.before.before.before.before.before.before.before.before.before.before.before.before.before.before
 
-abbrev start : tie.After-copy-arg5 → tie.Start
-start c = let q = c.before.before.before.before.before.before.before in let r = q.before.before.before.before.before.before in r.before.before.before.before.before.before
+abbrev start : tie.After-copy-arg-5-1 → tie.Start
+start c = c.before.before.before.before.before.before.before.before.before.before.before.before.before.before.before.before.before.before.before
 
 copy-requires : tie.Need-copy-requires
 copy-requires c κs = copy_fits (start c).requires
@@ -33,11 +33,11 @@ make_rounds_spec =
     (tie.spec
     copy-requires
     turns-requires
-    (λ c. let t = turned c in t.turns.kept.1.1.0 ∙ (copied t.before).copy.auto.1.1.1.1.1.0)
-    (λ c. let t = turned c in t.turns.kept.1.1.1.0 ∙ (copied t.before).copy.auto.1.1.1.1.1.1.0)
-    (λ c. let t = turned c in t.turns.kept.1.1.1.1.0 ∙ (copied t.before).copy.auto.1.1.1.1.1.1.1.0)
-    (λ c. let t = turned c in t.turns.kept.1.1.1.1.1.0 ∙ (copied t.before).copy.auto.1.1.1.1.1.1.1.1.0)
-    (λ c. let t = turned c in t.turns.kept.1.1.1.1.1.1.0 ∙ (copied t.before).copy.auto.1.1.1.1.1.1.1.1.1.0)
+    (λ c. let t = turned c in t.turns.auto.ox ∙ (copied t.before).copy.auto.ox)
+    (λ c. let t = turned c in t.turns.auto.oh ∙ (copied t.before).copy.auto.oh)
+    (λ c. let t = turned c in t.turns.auto.oq ∙ (copied t.before).copy.auto.oq)
+    (λ c. let t = turned c in t.turns.auto.os ∙ (copied t.before).copy.auto.os)
+    (λ c. let t = turned c in t.turns.auto.op ∙ (copied t.before).copy.auto.op)
     (λ c. search rules)
     (λ c. search rules)
     (λ c. search rules)

@@ -64,12 +64,11 @@ after_store c = c.before.before.before.before.before.before.before.before
 returns-3 : tie.Need-returns
 returns-3 c =
     let store = after_store c.before.before in
-    let at-if = store.before.before.before.before.before.before in
-    let short = at-if.before in
-    let check = short.before.before.before.before in
+    let short = store.before.before.before.before.before.before.before in
+    let check = store.before.before.before.before.before.before.before.before.before in
     let s = (start check).args.bytes.now in
     let t = lent (start check) in
-    let free = room short _ at-if.if1.left in
+    let free = room short _ c.if-too_short.false in
     let answer = c.answer_of-2.ensures ∙ accepted_answer s t _ (passed short.before) free in
     let output = store.store_tables.ensures ∙ accepted_output s t _ (passed short.before) free in
     (answer, (output, promised_bytes s t _ _ answer output (bytes check)))

@@ -6,28 +6,28 @@ use Rattle.rounds.proofs.front.copy_front.Statement.{statement}
 use Rattle.rounds.proofs.front.copy_front.Tie as tie
 
 -- from the first part back to the start
-abbrev start : tie.After-copy-arg → tie.Start
+abbrev start : tie.After-copy-arg-1 → tie.Start
 start c = c.before.before.before.before.before.before.before.before.before
 
-slice-aggregate-copy : tie.Need-slice-aggregate-copy
-slice-aggregate-copy c = let s = start c in length_part _ s.args.xs.now s.pre.0.vertices
+slice-aggregate-copy : tie.Need-slice_bounds-copy-end
+slice-aggregate-copy c = let s = start c in length_part _ s.args.xs.now s.requires.0.vertices
 
-slice-aggregate-copy-2 : tie.Need-slice-aggregate-copy-2
-slice-aggregate-copy-2 c = let s = start c.before in length_part _ s.args.hs.now s.pre.0.hexes
+slice-aggregate-copy-2 : tie.Need-slice_bounds-copy-end-2
+slice-aggregate-copy-2 c = let s = start c.before in length_part _ s.args.hs.now s.requires.0.hexes
 
-slice-aggregate-copy-3 : tie.Need-slice-aggregate-copy-3
-slice-aggregate-copy-3 c = let s = start c.before.before in length_part _ s.args.qs.now s.pre.0.quads
+slice-aggregate-copy-3 : tie.Need-slice_bounds-copy-end-3
+slice-aggregate-copy-3 c = let s = start c.before.before in length_part _ s.args.qs.now s.requires.0.quads
 
-slice-aggregate-copy-4 : tie.Need-slice-aggregate-copy-4
-slice-aggregate-copy-4 c = let s = start c.before.before.before in length_part _ s.args.ss.now s.pre.0.segments
+slice-aggregate-copy-4 : tie.Need-slice_bounds-copy-end-4
+slice-aggregate-copy-4 c = let s = start c.before.before.before in length_part _ s.args.ss.now s.requires.0.segments
 
-slice-aggregate-copy-5 : tie.Need-slice-aggregate-copy-5
-slice-aggregate-copy-5 c = let s = start c.before.before.before.before in length_part _ s.args.ps.now s.pre.0.points
+slice-aggregate-copy-5 : tie.Need-slice_bounds-copy-end-5
+slice-aggregate-copy-5 c = let s = start c.before.before.before.before in length_part _ s.args.ps.now s.requires.0.points
 
 copy-requires : tie.Need-copy-requires
 copy-requires c κs =
-    let s = start c.before.before.before.before.before.before.before.before.before in
-    let r = s.pre.1 in (
+    let s = start c.before.before.before.before in
+    let r = s.requires.1 in (
       part_fits _ s.args.xs.now s.args.ox.now r.vertices,
       (
         part_fits _ s.args.hs.now s.args.oh.now r.hexes,
@@ -43,7 +43,7 @@ copy-requires c κs =
 
 returns : tie.Need-returns
 unfolding front_of
-returns c = let p = c.before.before.before.before.before.before.before.before.before in p.copy.ensures
+returns c = c.copy.ensures
 
 pub copy_front_spec : {M : Type 1} → statement M
 copy_front_spec =

@@ -11,64 +11,63 @@ use Rattle.rounds.proofs.Turns.{Turning, turning_starts, turning_ready, turning_
 use Rattle.rounds.proofs.turn.turns.Statement.{statement}
 use Rattle.rounds.proofs.turn.turns.Tie as tie
 
-abbrev invariant-loop : tie.invariant-loop
+abbrev invariant-loop : tie.invariant-loop-k
 invariant-loop rounds ox₀ oh₀ oq₀ os₀ op₀ wx₀ wh₀ wq₀ ws₀ wp₀ words₀ longs₀ sizes₀ k₀ ox oh oq os op wx wh wq ws wp words longs sizes k =
     Turning rounds k (sized_front sizes₀ (mesh ox₀ oh₀ oq₀ os₀ op₀)) sizes (mesh ox₀ oh₀ oq₀ os₀ op₀) (mesh ox oh oq os op) (mesh wx₀ wh₀ wq₀ ws₀ wp₀) (mesh wx wh wq ws wp) words₀ words longs₀ longs
 
-abbrev decreases-loop : tie.decreases-loop
+abbrev decreases-loop : tie.decreases-loop-k
 decreases-loop rounds ox₀ oh₀ oq₀ os₀ op₀ wx₀ wh₀ wq₀ ws₀ wp₀ words₀ longs₀ sizes₀ k₀ ox oh oq os op wx wh wq ws wp words longs sizes k =
     rounds - k
 
 -- from the next sizes back to the call of a round, from there to the loop's head, and to the start
-abbrev called : tie.After-slice-known20 invariant-loop decreases-loop → tie.After-turn invariant-loop decreases-loop
-called c = let q = c.before.before.before.before.before.before.before.before in let r = q.before.before.before.before.before.before.before in r.before.before.before.before.before.before.before
+abbrev called : tie.After-slice_known-in-loop-k-10-1 invariant-loop decreases-loop → tie.After-turn invariant-loop decreases-loop
+called c = c.before.before.before.before.before.before.before.before.before.before.before.before.before.before.before.before.before.before.before.before.before.before
 
-abbrev head : tie.After-turn-arg12 invariant-loop decreases-loop → tie.In-loop invariant-loop decreases-loop
-head c = let q = c.before.before.before.before.before.before in q.before.before.before.before.before.before
+abbrev head : tie.After-turn-arg-in-loop-k-11-1 invariant-loop decreases-loop → tie.In-loop-k invariant-loop decreases-loop
+head c = c.before.before.before.before.before.before.before.before.before.before.before.before
 
-abbrev first : tie.After-slice-known10 invariant-loop decreases-loop → tie.Start invariant-loop decreases-loop
-first c = let q = c.before.before.before.before.before in q.before.before.before.before.before
+abbrev first : tie.After-slice_known-10-1 invariant-loop decreases-loop → tie.Start invariant-loop decreases-loop
+first c = c.before.before.before.before.before.before.before.before.before.before
 
-abbrev start : tie.In-loop invariant-loop decreases-loop → tie.Start invariant-loop decreases-loop
+abbrev start : tie.In-loop-k invariant-loop decreases-loop → tie.Start invariant-loop decreases-loop
 start l = first l.before.before
 
-loop-holds : tie.Need-loop-init invariant-loop decreases-loop
+loop-holds : tie.Need-loop-k-init invariant-loop decreases-loop
 loop-holds c = turning_starts (first c).requires
 
 turn-requires : tie.Need-turn-requires invariant-loop decreases-loop
-turn-requires c κs = let l = head c in turning_ready (start l).pre l.before.loop.inv l.loop-test.taken
+turn-requires c κs = let l = head c in turning_ready (start l).requires l.loop-k.invariant l.loop-k-test.true
 
-next-sizes-requires : tie.Need-next-sizes-requires invariant-loop decreases-loop
-next-sizes-requires c κs = let l = head (called c).before in turning_bounded (start l).pre l.before.loop.inv l.loop-test.taken
+next-sizes-requires : tie.Need-next_sizes-sizes-requires invariant-loop decreases-loop
+next-sizes-requires c κs = let l = head (called c).before in turning_bounded (start l).requires l.before.loop.inv l.loop-test.taken
 
-add-k : tie.Need-overflow-add-k invariant-loop decreases-loop
+add-k : tie.Need-overflow_add-k invariant-loop decreases-loop
 add-k c =
     let l = head (called c.before).before in
     omega (arith, l.loop-test.taken, (start l).fits.rounds)
 
-loop-less : tie.Need-loop-smaller invariant-loop decreases-loop
-loop-less c = omega (arith, (head (called c.before).before).loop-test.taken)
+loop-less : tie.Need-loop-k-smaller invariant-loop decreases-loop
+loop-less c = omega (arith, (head (called c.before).before).loop-k-test.true)
 
-loop-again : tie.Need-loop-preserved invariant-loop decreases-loop
+loop-again : tie.Need-loop-k-preserved invariant-loop decreases-loop
 loop-again c =
     let t = called c.before in
     let l = head t.before in
-    let kept = t.turn.kept.1 in
-    rw (add-one l.before.loop.k)
-    (turning_next (start l).pre l.before.loop.inv l.loop-test.taken c.next-sizes.ensures t.turn.ensures t.turn.last.1.1.1.1.1.1.1.1.1.1.1.0 t.turn.last.1.1.1.1.1.1.1.1.1.1.1.1.0
+    let kept = t.turn.auto.1 in
+    rw (add-one l.loop-k.k)
+    (turning_next (start l).requires l.loop-k.invariant l.loop-k-test.true c.next_sizes-sizes.ensures t.turn.ensures t.turn.last.1.1.1.1.1.1.1.1.1.1.1.0 t.turn.last.1.1.1.1.1.1.1.1.1.1.1.1.0
     (record { vertices = kept.0; hexes = kept.1.0; quads = kept.1.1.0; segments = kept.1.1.1.0; points = kept.1.1.1.1.0 })
     (record { vertices = kept.1.1.1.1.1.0; hexes = kept.1.1.1.1.1.1.0; quads = kept.1.1.1.1.1.1.1.0; segments = kept.1.1.1.1.1.1.1.1.0; points = kept.1.1.1.1.1.1.1.1.1.0 })
     kept.1.1.1.1.1.1.1.1.1.1.0 kept.1.1.1.1.1.1.1.1.1.1.1.0)
 
 returns : tie.Need-returns invariant-loop decreases-loop
 returns c =
-    let l = c.before in
-    let s = first l.before in
+    let s = first c.before.before in
     let a = s.args in
     let out = mesh a.ox.now a.oh.now a.oq.now a.os.now a.op.now in
     let m = sized_front a.start out in
-    let i = l.loop.invariant in
-    let e : l.loop.k ≡ a.rounds = omega (arith, c.loop-test.false, i.up_to) in
+    let i = c.loop-k.invariant in
+    let e : c.loop-k.k ≡ a.rounds = omega (arith, c.loop-k-test.false, i.up_to) in
     i.holds ∙ ap (λ (k : ℕ). result_tables 0 out (refined k m)) e
 
 pub turns_spec : {M : Type 1} → statement M
@@ -83,16 +82,16 @@ turns_spec =
     add-k
     loop-less
     loop-again
-    (λ c. c.before.loop.invariant.same_out.vertices)
-    (λ c. c.before.loop.invariant.same_out.hexes)
-    (λ c. c.before.loop.invariant.same_out.quads)
-    (λ c. c.before.loop.invariant.same_out.segments)
-    (λ c. c.before.loop.invariant.same_out.points)
-    (λ c. c.before.loop.invariant.same_work.vertices)
-    (λ c. c.before.loop.invariant.same_work.hexes)
-    (λ c. c.before.loop.invariant.same_work.quads)
-    (λ c. c.before.loop.invariant.same_work.segments)
-    (λ c. c.before.loop.invariant.same_work.points)
-    (λ c. c.before.loop.invariant.same_words)
-    (λ c. c.before.loop.invariant.same_longs)
+    (λ c. c.loop-k.invariant.same_out.vertices)
+    (λ c. c.loop-k.invariant.same_out.hexes)
+    (λ c. c.loop-k.invariant.same_out.quads)
+    (λ c. c.loop-k.invariant.same_out.segments)
+    (λ c. c.loop-k.invariant.same_out.points)
+    (λ c. c.loop-k.invariant.same_work.vertices)
+    (λ c. c.loop-k.invariant.same_work.hexes)
+    (λ c. c.loop-k.invariant.same_work.quads)
+    (λ c. c.loop-k.invariant.same_work.segments)
+    (λ c. c.loop-k.invariant.same_work.points)
+    (λ c. c.loop-k.invariant.same_words)
+    (λ c. c.loop-k.invariant.same_longs)
     returns)
