@@ -5,37 +5,32 @@ use Rattle.tables.proofs.Five.{length_part, part_fits}
 use Rattle.rounds.proofs.front.copy_front.Statement.{statement}
 use Rattle.rounds.proofs.front.copy_front.Tie as tie
 
--- from the first part back to the start
-abbrev start : tie.After-copy-arg-1 → tie.Start
-start c = c.before.before.before.before.before.before.before.before.before
-
 slice-aggregate-copy : tie.Need-slice_bounds-copy-end
-slice-aggregate-copy c = let s = start c in length_part _ s.args.xs.now s.requires.0.vertices
+slice-aggregate-copy c = length_part _ c.args.xs.now c.requires.0.vertices
 
 slice-aggregate-copy-2 : tie.Need-slice_bounds-copy-end-2
-slice-aggregate-copy-2 c = let s = start c.before in length_part _ s.args.hs.now s.requires.0.hexes
+slice-aggregate-copy-2 c = length_part _ c.args.hs.now c.requires.0.hexes
 
 slice-aggregate-copy-3 : tie.Need-slice_bounds-copy-end-3
-slice-aggregate-copy-3 c = let s = start c.before.before in length_part _ s.args.qs.now s.requires.0.quads
+slice-aggregate-copy-3 c = length_part _ c.args.qs.now c.requires.0.quads
 
 slice-aggregate-copy-4 : tie.Need-slice_bounds-copy-end-4
-slice-aggregate-copy-4 c = let s = start c.before.before.before in length_part _ s.args.ss.now s.requires.0.segments
+slice-aggregate-copy-4 c = length_part _ c.args.ss.now c.requires.0.segments
 
 slice-aggregate-copy-5 : tie.Need-slice_bounds-copy-end-5
-slice-aggregate-copy-5 c = let s = start c.before.before.before.before in length_part _ s.args.ps.now s.requires.0.points
+slice-aggregate-copy-5 c = length_part _ c.args.ps.now c.requires.0.points
 
 copy-requires : tie.Need-copy-requires
 copy-requires c κs =
-    let s = start c.before.before.before.before in
-    let r = s.requires.1 in (
-      part_fits _ s.args.xs.now s.args.ox.now r.vertices,
+    let r = c.requires.1 in (
+      part_fits _ c.args.xs.now c.args.ox.now r.vertices,
       (
-        part_fits _ s.args.hs.now s.args.oh.now r.hexes,
+        part_fits _ c.args.hs.now c.args.oh.now r.hexes,
         (
-          part_fits _ s.args.qs.now s.args.oq.now r.quads,
+          part_fits _ c.args.qs.now c.args.oq.now r.quads,
           (
-            part_fits _ s.args.ss.now s.args.os.now r.segments,
-            part_fits _ s.args.ps.now s.args.op.now r.points,
+            part_fits _ c.args.ss.now c.args.os.now r.segments,
+            part_fits _ c.args.ps.now c.args.op.now r.points,
           ),
         ),
       ),

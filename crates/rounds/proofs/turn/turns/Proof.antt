@@ -19,51 +19,33 @@ abbrev decreases-loop : tie.decreases-loop-k
 decreases-loop rounds ox₀ oh₀ oq₀ os₀ op₀ wx₀ wh₀ wq₀ ws₀ wp₀ words₀ longs₀ sizes₀ k₀ ox oh oq os op wx wh wq ws wp words longs sizes k =
     rounds - k
 
--- from the next sizes back to the call of a round, from there to the loop's head, and to the start
-abbrev called : tie.After-slice_known-in-loop-k-10-1 invariant-loop decreases-loop → tie.After-turn invariant-loop decreases-loop
-called c = c.before.before.before.before.before.before.before.before.before.before.before.before.before.before.before.before.before.before.before.before.before.before
-
-abbrev head : tie.After-turn-arg-in-loop-k-11-1 invariant-loop decreases-loop → tie.In-loop-k invariant-loop decreases-loop
-head c = c.before.before.before.before.before.before.before.before.before.before.before.before
-
-abbrev first : tie.After-slice_known-10-1 invariant-loop decreases-loop → tie.Start invariant-loop decreases-loop
-first c = c.before.before.before.before.before.before.before.before.before.before
-
-abbrev start : tie.In-loop-k invariant-loop decreases-loop → tie.Start invariant-loop decreases-loop
-start l = first l.before.before
-
 loop-holds : tie.Need-loop-k-init invariant-loop decreases-loop
-loop-holds c = turning_starts (first c).requires
+loop-holds c = turning_starts c.requires
 
 turn-requires : tie.Need-turn-requires invariant-loop decreases-loop
-turn-requires c κs = let l = head c in turning_ready (start l).requires l.loop-k.invariant l.loop-k-test.true
+turn-requires c κs = turning_ready c.requires c.loop-k.invariant c.loop-k-test.true
 
 next-sizes-requires : tie.Need-next_sizes-sizes-requires invariant-loop decreases-loop
-next-sizes-requires c κs = let l = head (called c).before in turning_bounded (start l).requires l.before.loop.inv l.loop-test.taken
+next-sizes-requires c κs = turning_bounded c.requires c.loop-k.invariant c.loop-k-test.true
 
 add-k : tie.Need-overflow_add-k invariant-loop decreases-loop
 add-k c =
-    let l = head (called c.before).before in
-    omega (arith, l.loop-test.taken, (start l).fits.rounds)
+    omega (arith, c.loop-k-test.true, c.ranges.rounds)
 
 loop-less : tie.Need-loop-k-smaller invariant-loop decreases-loop
-loop-less c = omega (arith, (head (called c.before).before).loop-k-test.true)
+loop-less c = omega (arith, c.loop-k-test.true)
 
 loop-again : tie.Need-loop-k-preserved invariant-loop decreases-loop
 loop-again c =
-    let t = called c.before in
-    let l = head t.before in
-    let kept = t.turn.auto.1 in
-    rw (add-one l.loop-k.k)
-    (turning_next (start l).requires l.loop-k.invariant l.loop-k-test.true c.next_sizes-sizes.ensures t.turn.ensures t.turn.last.1.1.1.1.1.1.1.1.1.1.1.0 t.turn.last.1.1.1.1.1.1.1.1.1.1.1.1.0
-    (record { vertices = kept.0; hexes = kept.1.0; quads = kept.1.1.0; segments = kept.1.1.1.0; points = kept.1.1.1.1.0 })
-    (record { vertices = kept.1.1.1.1.1.0; hexes = kept.1.1.1.1.1.1.0; quads = kept.1.1.1.1.1.1.1.0; segments = kept.1.1.1.1.1.1.1.1.0; points = kept.1.1.1.1.1.1.1.1.1.0 })
-    kept.1.1.1.1.1.1.1.1.1.1.0 kept.1.1.1.1.1.1.1.1.1.1.1.0)
+    rw (add-one c.loop-k.k)
+    (turning_next c.requires c.loop-k.invariant c.loop-k-test.true c.next_sizes-sizes.ensures c.turn.ensures c.turn.new.words c.turn.new.longs
+    (record { vertices = c.turn.auto.ox; hexes = c.turn.auto.oh; quads = c.turn.auto.oq; segments = c.turn.auto.os; points = c.turn.auto.op })
+    (record { vertices = c.turn.auto.wx; hexes = c.turn.auto.wh; quads = c.turn.auto.wq; segments = c.turn.auto.ws; points = c.turn.auto.wp })
+    c.turn.auto.words c.turn.auto.longs)
 
 returns : tie.Need-returns invariant-loop decreases-loop
 returns c =
-    let s = first c.before.before in
-    let a = s.args in
+    let a = c.args in
     let out = mesh a.ox.now a.oh.now a.oq.now a.os.now a.op.now in
     let m = sized_front a.start out in
     let i = c.loop-k.invariant in
