@@ -7,18 +7,14 @@ use Rattle.refine.proofs.Decided.{last_check}
 use Rattle.refine.proofs.lending.decide.Statement.{statement}
 use Rattle.refine.proofs.lending.decide.Tie as tie
 
--- from check 11 back to the test of the other refusals
-abbrev passed : tie.After-is-short → tie.Else1
-passed c = c.before.before
+returns : tie.Need-returns-then-refusal-ne0
+returns c = first_refusal _ _ c.if-refusal-ne0.true
 
-returns : tie.Need-returns
-returns c = first_refusal _ _ c.if1.true
+returns-2 : tie.Need-returns-then-is_short
+returns-2 c = last_check true c.if-refusal-ne0.false (sym c.is_short.ensures ∙ c.if-is_short.true)
 
-returns-2 : tie.Need-returns-2
-returns-2 c = let s = c.before in last_check true (passed s).if1.false (sym s.is-short.ensures ∙ c.if2.true)
-
-returns-3 : tie.Need-returns-3
-returns-3 c = let s = c.before in last_check false (passed s).if1.false (sym s.is-short.ensures ∙ c.if2.false)
+returns-3 : tie.Need-returns
+returns-3 c = last_check false c.if-refusal-ne0.false (sym c.is_short.ensures ∙ c.if-is_short.false)
 
 pub decide_spec : {M : Type 1} → statement M
 decide_spec = tie.close (tie.spec returns (λ c κs. search rules) returns-2 returns-3)
