@@ -9,10 +9,8 @@ use Rattle.fixed.proofs.refine_mesh.Tie as tie
 returns : tie.Need-returns
 unfolding counts_of
 returns c =
-    let d = c.before.before.before.before.before.before.before.before.before.before.before.before.before.before.before.before in
-    let s = d.before.before.before.before.before.before.before.before.before.before.before.before.before.before.before.before.before.before.before.before.before in
-    let f : FixedMemory _ _ _ _ = record { output = s.requires; working = refl; words = refl; longs = refl } in
-    (refined_answer f _ _ d.refine.ensures.0, refined_output f _ _ d.refine.ensures.1.0)
+    let f : FixedMemory _ _ _ _ = record { output = c.requires; working = refl; words = refl; longs = refl } in
+    (refined_answer f _ _ c.refine.ensures.0, refined_output f _ _ c.refine.ensures.1.0)
 
 pub refine_mesh_spec : {M : Type 1} → statement M
 refine_mesh_spec =

@@ -14,33 +14,28 @@ abbrev tables : Mesh
 tables = mesh (replicate 3_000 (pos 0)) (replicate 2_048 0) (replicate 1_024 0) (replicate 512 0) (replicate 256 0)
 
 -- what the call of `read` promised
-read_done : (d : tie.After-read) →
+read_done : (d : tie.After-read-r) →
     Reading
-    d.before.before.before.before.before.before.before.before.before.before.before.args.bytes.now
+    d.args.bytes.now
     tables
-    (mesh d.read.new.1.0 d.read.new.1.1.0 d.read.new.1.1.1.0 d.read.new.1.1.1.1.0 d.read.new.1.1.1.1.1.0)
-    d.read.result
+    (mesh d.read-r.new.xs d.read-r.new.hexes d.read-r.new.quads d.read-r.new.segments d.read-r.new.points)
+    d.read-r.result
 unfolding counts_of
-read_done d = record { sizes = refl; answer = d.read.ensures.0; output = d.read.ensures.1.0 }
+read_done d = record { sizes = refl; answer = d.read-r.ensures.0; output = d.read-r.ensures.1.0 }
 
-returns : tie.Need-returns
+returns : tie.Need-returns-then-r-ne0
 returns c =
-    let d = c.before.before.before.before.before.before.before in
-    let s = d.before.before.before.before.before.before.before.before.before.before.before in
-    (read_refused (read_done d) c.if1.true s.args.rounds, read_kept (read_done d) c.if1.true s.args.rounds _)
+    (read_refused (read_done c.before.before.before.before.before.before.before) c.if-r-ne0.true c.args.rounds, read_kept (read_done c.before.before.before.before.before.before.before) c.if-r-ne0.true c.args.rounds _)
 
-refine-front-requires : tie.Need-refine-front-requires
+refine-front-requires : tie.Need-refine_front-requires
 refine-front-requires c κs =
-    let i = c.before.before.before.before.before.before.before.before.before.before.before in
-    (read_room (read_done i.before.before.before.before.before.before.before) i.if1.false, c.before.before.before.before.before.before.before.before.before.before.before.before.before.before.before.before.before.before.before.before.before.before.before.before.before.before.before.before.before.requires)
+    (read_room (read_done c.before.before.before.before.before.before.before.before.before.before.before.before.before.before.before.before.before.before) c.if-r-ne0.false, c.requires)
 
-returns-2 : tie.Need-returns-2
+returns-2 : tie.Need-returns
 returns-2 c =
-    let f = c.before.before.before.before.before.before.before.before.before in
-    let i = f.before.before.before.before.before.before.before.before.before.before.before.before in
-    let d = read_done i.before.before.before.before.before.before.before in
-    let e = rw (read_front d i.if1.false) at f.refine-front.ensures in
-    rw (then_refining d i.if1.false i.before.before.before.before.before.before.before.before.before.before.before.before.before.before.before.before.before.before.args.rounds) e
+    let d = read_done c.before.before.before.before.before.before.before.before.before.before.before.before.before.before.before.before.before.before.before.before.before.before.before.before.before.before.before.before in
+    let e = rw (read_front d c.if-r-ne0.false) at c.refine_front.ensures in
+    rw (then_refining d c.if-r-ne0.false c.args.rounds) e
 
 pub refine_stored_spec : {M : Type 1} → statement M
 refine_stored_spec =
