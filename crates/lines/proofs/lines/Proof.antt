@@ -15,26 +15,20 @@ use Rattle.lines.proofs.lines.Tie as tie
 printed : {old new bytes : List ℕ} {n : ℕ} → Printed old new n bytes → (n ≡ length bytes) × (new ≡ overwritten old bytes)
 printed p = (p.counted, p.output)
 
-returns : tie.Need-returns
+returns : tie.Need-returns-then-n-gt16385
 returns c =
-    let long = c.before.before in
-    let read = long.before in
-    let a = read.before.args in
-    rw (over_limit a.input.now a.n read.bytes.given.0 (omega arith)) at (printed c.refused-line.ensures)
+    let a = c.args in
+    rw (over_limit a.input.now a.n c.bytes-1.given (omega arith)) at (printed c.refused_line.ensures)
 
-returns-2 : tie.Need-returns-2
+returns-2 : tie.Need-returns-then-n-eq0
 returns-2 c =
-    let none = c.before.before in
-    let read = none.before.before in
-    let a = read.before.args in
-    rw (no_byte a.input.now a.n read.bytes.given.0 none.if2.true) at (printed c.refused-line2.ensures)
+    let a = c.args in
+    rw (no_byte a.input.now a.n c.bytes-1.given c.if-n-eq0.true) at (printed c.refused_line-then-n-eq0.ensures)
 
-returns-3 : tie.Need-returns-3
+returns-3 : tie.Need-returns
 returns-3 c =
-    let some = c.before.before.before.before in
-    let read = some.before.before in
-    let a = read.before.args in
-    rw (some_bytes a.input.now a.n read.bytes.given.0 (omega arith) some.if2.false) at (printed c.Stored-lines.ensures)
+    let a = c.args in
+    rw (some_bytes a.input.now a.n c.bytes-1.given (omega arith) c.if-n-eq0.false) at (printed c.stored_lines.ensures)
 
 pub lines_spec : {M : Type 1} → statement M
 lines_spec =
@@ -48,6 +42,6 @@ lines_spec =
     (λ c. search rules)
     (λ c. search rules)
     (λ c. search rules)
-    (λ c. record { fits = omega (arith, c.shared-slice-known.given 0) })
+    (λ c. record { fits = omega (arith, c.shared_slice_known-1.given 0) })
     (λ c κs. search rules)
     returns-3)

@@ -19,34 +19,30 @@ abbrev tables : Mesh
 tables = mesh (replicate 3_000 (pos 0)) (replicate 2_048 0) (replicate 1_024 0) (replicate 512 0) (replicate 256 0)
 
 -- what the call of `refine_stored` promised
-refined-done : (d : tie.After-refine-stored) →
-    let s = d.before.before.before.before.before.before.before.before in
-    Refining s.args.bytes.now s.args.rounds tables
-    (mesh d.refine-stored.new.1.1.0 d.refine-stored.new.1.1.1.0 d.refine-stored.new.1.1.1.1.0 d.refine-stored.new.1.1.1.1.1.0 d.refine-stored.new.1.1.1.1.1.1.0)
-    d.refine-stored.result
-refined-done d = record { answer = d.refine-stored.ensures.0; output = d.refine-stored.ensures.1 }
+refined-done : (d : tie.After-refine_stored-r) →
+    Refining d.args.bytes.now d.args.rounds tables
+    (mesh d.refine_stored-r.new.ox d.refine_stored-r.new.oh d.refine_stored-r.new.oq d.refine_stored-r.new.os d.refine_stored-r.new.op)
+    d.refine_stored-r.result
+refined-done d = record { answer = d.refine_stored-r.ensures.0; output = d.refine_stored-r.ensures.1 }
 
-refine-stored-requires : tie.Need-refine-stored-requires
+refine-stored-requires : tie.Need-refine_stored-r-requires
 unfolding counts_of
 refine-stored-requires c κs = refl
 
-returns : tie.Need-returns
+returns : tie.Need-returns-then-refusal-ne0
 returns c =
-    let i = c.before.before.before.before in
-    let d = refined-done i.before.before.before.before.before.before in
-    rw (listed_refused d i.if1.true) at c.before.before.refused-line.ensures
+    let d = refined-done c.before.before.before.before.before.before.before.before.before.before in
+    rw (listed_refused d c.if-refusal-ne0.true) at c.refused_line.ensures
 
-front-lines-requires : tie.Need-front-lines-requires
+front-lines-requires : tie.Need-front_lines-requires
 front-lines-requires c κs =
-    let i = c.before.before.before.before.before.before.before in
-    let d = refined-done i.before.before.before.before.before.before in
-    (finished_room d i.if1.false, (rw (finished_front d i.if1.false) (finished_fits _ _ (refining_accepted d i.if1.false)), c.before.before.before.before.before.before.before.before.before.before.before.before.before.before.before.before.before.before.before.before.before.requires))
+    let d = refined-done c.before.before.before.before.before.before.before.before.before.before.before.before.before in
+    (finished_room d c.if-refusal-ne0.false, (rw (finished_front d c.if-refusal-ne0.false) (finished_fits _ _ (refining_accepted d c.if-refusal-ne0.false)), c.requires))
 
-returns-2 : tie.Need-returns-2
+returns-2 : tie.Need-returns
 returns-2 c =
-    let i = c.before.before.before.before.before.before.before.before.before.before in
-    let d = refined-done i.before.before.before.before.before.before in
-    rw (finished_front d i.if1.false, listed_accepted d i.if1.false) at c.before.before.front-lines.ensures
+    let d = refined-done c.before.before.before.before.before.before.before.before.before.before.before.before.before.before.before.before in
+    rw (finished_front d c.if-refusal-ne0.false, listed_accepted d c.if-refusal-ne0.false) at c.front_lines.ensures
 
 pub stored_lines_spec : {M : Type 1} → statement M
 stored_lines_spec =

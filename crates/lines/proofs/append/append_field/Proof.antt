@@ -10,7 +10,7 @@ pub append_field_spec : {M : Type 1} → statement M
 append_field_spec =
     tie.close
     (tie.spec
-    (λ c κs. let s = c.before.before in room_first (32 ∷ []) (decimal s.args.n) s.requires)
-    (λ c κs. room_rest _ c.before.before.before.append-byte.ensures c.before.before.before.before.before.before.requires)
+    (λ c κs. room_first (32 ∷ []) (decimal c.args.n) c.requires)
+    (λ c κs. room_rest _ c.append_byte-next.ensures c.requires)
     (λ c. search rules)
-    (λ c. c.before.before.before.before.before.before.append-byte.ensures then c.before.before.append-decimal.ensures))
+    (λ c. c.append_byte-next.ensures then c.append_decimal.ensures))

@@ -11,11 +11,7 @@ pub append_signed_field_spec : {M : Type 1} → statement M
 append_signed_field_spec =
     tie.close
     (tie.spec
-    (λ c κs. let s = c.before.before in room_first (32 ∷ []) (signed_decimal s.args.z) s.requires)
-    (λ c κs.
-    let s = c.before.before.before.before.before.before in
-    rw (to_z-of_z s.ranges.z) (room_rest _ c.before.before.before.append-byte.ensures s.requires))
+    (λ c κs. room_first (32 ∷ []) (signed_decimal c.args.z) c.requires)
+    (λ c κs. rw (to_z-of_z c.ranges.z) (room_rest _ c.append_byte-next.ensures c.requires))
     (λ c. search rules)
-    (λ c.
-    let b = c.before.before.before.before.before.before in
-    b.append-byte.ensures then (rw (to_z-of_z b.before.before.before.ranges.z) at c.before.before.append-signed.ensures)))
+    (λ c. c.append_byte-next.ensures then (rw (to_z-of_z c.ranges.z) at c.append_signed.ensures)))

@@ -15,16 +15,9 @@ append_word_spec =
     (λ word out₀ at next₀ i₀ out next i. length word - i)
     (λ c. print_start _ _ _ _)
     (λ c. omega arith)
-    (λ c κs.
-    let l = c.before.before in
-    let s = l.before.before.before.before in
-    print_room (λ (b : ℕ). b ∷ []) l.before.loop.invariant 0 (rw (byte_runs s.args.word.now) s.requires) l.loop-test.true)
+    (λ c κs. print_room (λ (b : ℕ). b ∷ []) c.loop-i.invariant 0 (rw (byte_runs c.args.word.now) c.requires) c.loop-i-test.true)
     (λ c. omega arith)
     (λ c. omega arith)
-    (λ c.
-    let l = c.before.before.before.before.before in
-    print_turn (λ (b : ℕ). b ∷ []) l.before.loop.invariant 0 l.loop-test.true c.before.before.append-byte.ensures)
-    (λ c. append_length c.before.loop.invariant.done)
-    (λ c.
-    let s = c.before.before.before.before in
-    rw (byte_runs s.args.word.now) at (print_end (λ (b : ℕ). b ∷ []) c.before.loop.invariant c.loop-test.false)))
+    (λ c. print_turn (λ (b : ℕ). b ∷ []) c.loop-i.invariant 0 c.loop-i-test.true c.append_byte-next.ensures)
+    (λ c. append_length c.loop-i.invariant.done)
+    (λ c. rw (byte_runs c.args.word.now) at (print_end (λ (b : ℕ). b ∷ []) c.loop-i.invariant c.loop-i-test.false)))

@@ -16,7 +16,7 @@ use Rattle.lines.proofs.append.magnitude.Tie as tie
 
 -- a number of 32 bits is the same in 64
 wide : (z : ℤ) → SFits w32 z → to_z w64 (of_z w64 (to_z w32 (of_z w32 z))) ≡ z
-wide z h = rw (to_z-of_z h) (to_z-of_z (record { sfits = omega arith }))
+wide z h = rw (to_z-of_z h) (to_z-of_z {w = w64} (record { sfits = omega arith }))
 
 -- one below zero, taken from zero
 record Negated (z n : ℤ) : Type 0 where
@@ -37,19 +37,19 @@ small : (z : ℤ) → SFits w32 z → Fits w64 (nat_abs z)
 small (pos n) h = record { fits = omega arith }
 small (negsuc n) h = record { fits = omega arith }
 
-taken : (c : tie.Then1) → Negated c.before.args.z (pos 0 -ℤ c.before.args.z)
-taken c = negated c.before.args.z c.before.ranges.z (rw (wide c.before.args.z c.before.ranges.z) at c.if1.true)
+taken : (c : tie.Then-wide-lt0) → Negated c.args.z (pos 0 -ℤ c.args.z)
+taken c = negated c.args.z c.ranges.z (rw (wide c.args.z c.ranges.z) at c.if-wide-lt0.true)
 
-left : (c : tie.Else1) → T (non_neg c.before.args.z)
-left c = above c.before.args.z (rw (wide c.before.args.z c.before.ranges.z) at c.if1.false)
+left : (c : tie.Else-wide-lt0) → T (non_neg c.args.z)
+left c = above c.args.z (rw (wide c.args.z c.ranges.z) at c.if-wide-lt0.false)
 
 pub magnitude_spec : {M : Type 1} → statement M
 magnitude_spec =
     tie.close
     (tie.spec
     (λ c. rw (to_z-of_z c.ranges.z) (record { sfits = omega arith }))
-    (λ c. rw (wide c.before.args.z c.before.ranges.z) (taken c).held)
-    (λ c. rw (wide c.before.args.z c.before.ranges.z, to_z-of_z (taken c).held, (taken c).size) ((taken c).above, small _ c.before.ranges.z))
-    (λ c. rw (wide c.before.args.z c.before.ranges.z) (left c, small _ c.before.ranges.z))
-    (λ c. rw (wide c.before.args.z c.before.ranges.z, to_z-of_z (taken c).held) (taken c).size)
-    (λ c. rw (wide c.before.args.z c.before.ranges.z)))
+    (λ c. rw (wide c.args.z c.ranges.z) (taken c).held)
+    (λ c. rw (wide c.args.z c.ranges.z, to_z-of_z (taken c).held, (taken c).size) ((taken c).above, small _ c.ranges.z))
+    (λ c. rw (wide c.args.z c.ranges.z) (left c, small _ c.ranges.z))
+    (λ c. rw (wide c.args.z c.ranges.z, to_z-of_z (taken c).held) (taken c).size)
+    (λ c. rw (wide c.args.z c.ranges.z)))

@@ -16,6 +16,7 @@ use Rattle.checks.proofs.Slices.{entry_within, entry_part}
 use Rattle.lines.proofs.Held.{keep_turn}
 use Rattle.lines.proofs.ranks.count_holding.Statement.{statement}
 use Rattle.lines.proofs.ranks.count_holding.Tie as tie
+use Rattle.lines.proofs.ranks.count_holding.Lts.{then-has_number, else-has_number}
 
 -- the first c cells are counted
 record Counting (v : ℕ) (cells : List (List ℕ)) (count c : ℕ) : Type 0 where
@@ -23,35 +24,36 @@ record Counting (v : ℕ) (cells : List (List ℕ)) (count c : ℕ) : Type 0 whe
   few : count ≤ c
   counted : count ≡ length (keep (has v) (take c cells))
 
-abbrev invariant-loop : tie.invariant-loop
+abbrev invariant-loop : tie.invariant-loop-c
 invariant-loop v k table n count₀ c₀ count c = Counting v (cut k table) count c
 
-abbrev decreases-loop : tie.decreases-loop
+abbrev decreases-loop : tie.decreases-loop-c
 decreases-loop v k table n count₀ c₀ count c = n - c
 
 -- cell c is one of the table's
-listed : (l : tie.In-loop invariant-loop decreases-loop) → l.before.loop.c < length (cut l.before.before.before.args.k l.before.before.before.args.table.now)
-listed l = let a = l.before.before.before.args in rw (length_cut a.k a.table.now) l.loop-test.true
+listed : (l : tie.In-loop-c invariant-loop decreases-loop) → l.loop-c.c < length (cut l.args.k l.args.table.now)
+listed l = let a = l.args in rw (length_cut a.k a.table.now) l.loop-c-test.true
 
 -- and lies within it
-within : (l : tie.In-loop invariant-loop decreases-loop) → let a = l.before.before.before.args in a.k * l.before.loop.c + a.k ≤ length a.table.now
-within l = let a = l.before.before.before.args in entry_within a.k l.before.loop.c a.table.now (listed l)
+within : (l : tie.In-loop-c invariant-loop decreases-loop) → let a = l.args in a.k * l.loop-c.c + a.k ≤ length a.table.now
+within l = let a = l.args in entry_within a.k l.loop-c.c a.table.now (listed l)
 
-tested : (c : tie.After-has-number invariant-loop decreases-loop) →
-    let l = c.before.before.before in
-    let a = l.before.before.args in
-    c.has-number.result ≡ has a.v (get_or (cut a.k a.table.now) l.loop.c [])
+tested : (c : tie.After-has_number invariant-loop decreases-loop) →
+    let a = c.args in
+    c.has_number.result ≡ has a.v (get_or (cut a.k a.table.now) c.loop-c.c [])
 tested c =
-    let l = c.before.before in
-    let a = l.before.before.before.args in
-    rw (entry_part a.k l.before.loop.c a.table.now (listed l)) at c.has-number.ensures
+    let a = c.args in
+    rw (entry_part a.k c.loop-c.c a.table.now (listed c.before.before)) at c.has_number.ensures
 
 -- what the test adds to the count
-added : (c : tie.Joined1 invariant-loop decreases-loop) →
-    let a = c.before.before.before.before.before.before.args in
-    let l = c.before.before.before.before in
-    c.if1.count ≡ l.loop.count + cond (has a.v (get_or (cut a.k a.table.now) l.loop.c [])) 1 0
-added c = ⊎_elim (λ w. rw (← tested c.before, w.0.taken) w.1) (λ w. rw (← tested c.before, w.0.left) (omega (arith, w.1))) c.if1.branch
+added : (c : tie.Joined-has_number invariant-loop decreases-loop) →
+    let a = c.args in
+    c.if-has_number.count ≡ c.loop-c.count + cond (has a.v (get_or (cut a.k a.table.now) c.loop-c.c [])) 1 0
+added c =
+    elim c.if-has_number.branch [
+      | then-has_number w ↦ rw (← tested c.before, w.if-has_number.true) w.count-is
+      | else-has_number w ↦ rw (← tested c.before, w.if-has_number.false) (omega (arith, w.count-is))
+    ]
 
 turn : (v : ℕ) (cells : List (List ℕ)) (count c more : ℕ) → Counting v cells count c → c < length cells → more ≡ count + cond (has v (get_or cells c [])) 1 0 → Counting v cells more (c + 1)
 turn v cells count c more i h e = record {
@@ -80,11 +82,10 @@ count_holding_spec =
     (λ c. omega (arith, within c))
     (λ c. omega (arith, within c))
     (λ c κs. tt)
-    (λ c. let l = c.before.before.before in let a = l.before.before.before.args in omega (arith, l.before.loop.invariant.few, div-le_self (length a.table.now) a.k))
-    (λ c. let l = c.before.before.before in let a = l.before.before.before.args in omega (arith, div-le_self (length a.table.now) a.k))
+    (λ c. let a = c.args in omega (arith, c.loop-c.invariant.few, div-le_self (length a.table.now) a.k))
+    (λ c. let a = c.args in omega (arith, div-le_self (length a.table.now) a.k))
     (λ c. omega arith)
-    (λ c. let l = c.before.before.before in turn _ _ _ _ _ l.before.loop.invariant (listed l) (added c))
-    (λ c.
-    let i = c.before.loop.invariant in
-    let a = c.before.before.before.args in
-    rw (take_all c.before.loop.c (cut a.k a.table.now) (rw (length_cut a.k a.table.now) c.loop-test.false)) at i.counted))
+    (λ c. turn _ _ _ _ _ c.loop-c.invariant (listed c.before.before.before) (added c))
+    (λ c. let i = c.loop-c.invariant in
+    let a = c.args in
+    rw (take_all c.loop-c.c (cut a.k a.table.now) (rw (length_cut a.k a.table.now) c.loop-c-test.false)) at i.counted))

@@ -6,38 +6,32 @@ use Rattle.lines.proofs.Held.{points_decide, segments_decide, quads_decide, hexe
 use Rattle.lines.proofs.ranks.rank_of.Statement.{statement}
 use Rattle.lines.proofs.ranks.rank_of.Tie as tie
 
-returns : tie.Need-returns
+returns : tie.Need-returns-then-p-ne0
 unfolding topology
 returns c =
-    let e = c.before.count-holding.ensures in
-    let d = points_decide _ _ (λ z. c.if1.true (e ∙ z)) in
+    let e = c.count_holding-p.ensures in
+    let d = points_decide _ _ (λ z. c.if-p-ne0.true (e ∙ z)) in
     (d.ranks, e ∙ d.counts)
 
-returns-2 : tie.Need-returns-2
+returns-2 : tie.Need-returns-then-s-ne0
 unfolding topology
 returns-2 c =
-    let b = c.before.before in
-    let e = c.before.count-holding2.ensures in
-    let d = segments_decide _ _ (sym b.before.count-holding.ensures ∙ b.if1.false) (λ z. c.if2.true (e ∙ z)) in
+    let e = c.count_holding-s.ensures in
+    let d = segments_decide _ _ (sym c.count_holding-p.ensures ∙ c.if-p-ne0.false) (λ z. c.if-s-ne0.true (e ∙ z)) in
     (d.ranks, e ∙ d.counts)
 
-returns-3 : tie.Need-returns-3
+returns-3 : tie.Need-returns-then-q-ne0
 unfolding topology
 returns-3 c =
-    let b = c.before.before in
-    let a = b.before.before in
-    let e = c.before.count-holding3.ensures in
-    let d = quads_decide _ _ (sym a.before.count-holding.ensures ∙ a.if1.false) (sym b.before.count-holding2.ensures ∙ b.if2.false) (λ z. c.if3.true (e ∙ z)) in
+    let e = c.count_holding-q.ensures in
+    let d = quads_decide _ _ (sym c.count_holding-p.ensures ∙ c.if-p-ne0.false) (sym c.count_holding-s.ensures ∙ c.if-s-ne0.false) (λ z. c.if-q-ne0.true (e ∙ z)) in
     (d.ranks, e ∙ d.counts)
 
-returns-4 : tie.Need-returns-4
+returns-4 : tie.Need-returns
 unfolding topology
 returns-4 c =
-    let g = c.before in
-    let b = g.before.before in
-    let a = b.before.before in
-    let e = c.count-holding4.ensures in
-    let d = hexes_decide _ _ (sym a.before.count-holding.ensures ∙ a.if1.false) (sym b.before.count-holding2.ensures ∙ b.if2.false) (sym g.before.count-holding3.ensures ∙ g.if3.false) in
+    let e = c.count_holding-h.ensures in
+    let d = hexes_decide _ _ (sym c.count_holding-p.ensures ∙ c.if-p-ne0.false) (sym c.count_holding-s.ensures ∙ c.if-s-ne0.false) (sym c.count_holding-q.ensures ∙ c.if-q-ne0.false) in
     (d.ranks, e ∙ d.counts)
 
 pub rank_of_spec : {M : Type 1} → statement M

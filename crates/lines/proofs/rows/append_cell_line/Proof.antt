@@ -11,7 +11,7 @@ unfolding line
 append_cell_line_spec =
     tie.close
     (tie.spec
-    (λ c κs. let s = c.before.before.before in room_first (s.args.letter ∷ []) _ s.requires)
-    (λ c κs. room_rest _ c.before.before.before.append-byte.ensures c.before.before.before.before.before.before.before.requires)
+    (λ c κs. room_first (c.args.letter ∷ []) _ c.requires)
+    (λ c κs. room_rest _ c.append_byte-next.ensures c.requires)
     (λ c. search rules)
-    (λ c. c.before.before.before.before.before.before.append-byte.ensures then c.before.before.append-fields.ensures))
+    (λ c. c.append_byte-next.ensures then c.append_fields.ensures))

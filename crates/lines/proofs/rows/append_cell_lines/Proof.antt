@@ -17,19 +17,19 @@ use Rattle.lines.proofs.rows.append_cell_lines.Tie as tie
 abbrev cell_line : ℕ → List ℕ → List ℕ
 cell_line letter cell = line (letter ∷ []) (map decimal cell)
 
-abbrev invariant-loop : tie.invariant-loop
+abbrev invariant-loop : tie.invariant-loop-c
 invariant-loop letter k table out₀ at n next₀ c₀ out next c = Printing (cell_line letter) (cut k table) out₀ out at next c
 
-abbrev decreases-loop : tie.decreases-loop
+abbrev decreases-loop : tie.decreases-loop-c
 decreases-loop letter k table out₀ at n next₀ c₀ out next c = n - c
 
 -- cell c is one of the table's
-listed : (l : tie.In-loop invariant-loop decreases-loop) → let a = l.before.before.before.before.args in l.before.loop.c < length (cut a.k a.table.now)
-listed l = let a = l.before.before.before.before.args in rw (length_cut a.k a.table.now) l.loop-test.true
+listed : (l : tie.In-loop-c invariant-loop decreases-loop) → let a = l.args in l.loop-c.c < length (cut a.k a.table.now)
+listed l = let a = l.args in rw (length_cut a.k a.table.now) l.loop-c-test.true
 
 -- and lies within it
-within : (l : tie.In-loop invariant-loop decreases-loop) → let a = l.before.before.before.before.args in a.k * l.before.loop.c + a.k ≤ length a.table.now
-within l = let a = l.before.before.before.before.args in entry_within a.k l.before.loop.c a.table.now (listed l)
+within : (l : tie.In-loop-c invariant-loop decreases-loop) → let a = l.args in a.k * l.loop-c.c + a.k ≤ length a.table.now
+within l = let a = l.args in entry_within a.k l.loop-c.c a.table.now (listed l)
 
 pub append_cell_lines_spec : {M : Type 1} → statement M
 unfolding cell_lines
@@ -46,19 +46,11 @@ append_cell_lines_spec =
     (λ c. omega (arith, within c))
     (λ c. omega (arith, within c))
     (λ c. omega (arith, within c))
-    (λ c κs.
-    let l = c.before.before in
-    let s = l.before.before.before.before in
-    rw (entry_part s.args.k l.before.loop.c s.args.table.now (listed l))
-    (print_room (cell_line s.args.letter) l.before.loop.invariant [] s.requires.1 (listed l)))
-    (λ c. let a = c.before.before.before.before.before.before.before.before.before.args in omega (arith, div-le_self (length a.table.now) a.k))
+    (λ c κs. rw (entry_part c.args.k c.loop-c.c c.args.table.now (listed c.before.before))
+    (print_room (cell_line c.args.letter) c.loop-c.invariant [] c.requires.1 (listed c.before.before)))
+    (λ c. let a = c.args in omega (arith, div-le_self (length a.table.now) a.k))
     (λ c. omega arith)
-    (λ c.
-    let l = c.before.before.before.before.before in
-    let s = l.before.before.before.before in
-    print_turn (cell_line s.args.letter) l.before.loop.invariant [] (listed l)
-    (rw (entry_part s.args.k l.before.loop.c s.args.table.now (listed l)) at c.before.before.append-cell-line.ensures))
-    (λ c. append_length c.before.loop.invariant.done)
-    (λ c.
-    let s = c.before.before.before.before in
-    print_end (cell_line s.args.letter) c.before.loop.invariant (rw (length_cut s.args.k s.args.table.now) c.loop-test.false)))
+    (λ c. print_turn (cell_line c.args.letter) c.loop-c.invariant [] (listed c.before.before.before.before.before)
+    (rw (entry_part c.args.k c.loop-c.c c.args.table.now (listed c.before.before.before.before.before)) at c.append_cell_line-next.ensures))
+    (λ c. append_length c.loop-c.invariant.done)
+    (λ c. print_end (cell_line c.args.letter) c.loop-c.invariant (rw (length_cut c.args.k c.args.table.now) c.loop-c-test.false)))

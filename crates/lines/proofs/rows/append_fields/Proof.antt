@@ -11,10 +11,10 @@ use Rattle.lines.proofs.Fields.{field, fields_runs}
 use Rattle.lines.proofs.rows.append_fields.Statement.{statement}
 use Rattle.lines.proofs.rows.append_fields.Tie as tie
 
-abbrev invariant-loop : tie.invariant-loop
+abbrev invariant-loop : tie.invariant-loop-i
 invariant-loop numbers out₀ at next₀ i₀ out next i = Printing field numbers out₀ out at next i
 
-abbrev decreases-loop : tie.decreases-loop
+abbrev decreases-loop : tie.decreases-loop-i
 decreases-loop numbers out₀ at next₀ i₀ out next i = length numbers - i
 
 -- the room, by runs
@@ -30,18 +30,11 @@ append_fields_spec =
     (λ c. print_start _ _ _ _)
     (λ c. omega arith)
     (λ c. omega arith)
-    (λ c. record { fits = omega (arith, c.shared-slice-known2.given c.before.before.loop.i) })
-    (λ c κs.
-    let l = c.before.before in
-    print_room field l.before.loop.invariant 0 (room_first _ _ (room l.before.before.before.before)) l.loop-test.true)
+    (λ c. record { fits = omega (arith, c.shared_slice_known-in-loop-i-1.given c.loop-i.i) })
+    (λ c κs. print_room field c.loop-i.invariant 0 (room_first _ _ (room c.before.before.before.before.before.before)) c.loop-i-test.true)
     (λ c. omega arith)
     (λ c. omega arith)
-    (λ c. let l = c.before.before.before.before.before in print_turn field l.before.loop.invariant 0 l.loop-test.true c.before.before.append-field.ensures)
-    (λ c κs.
-    let l = c.before in
-    room_rest _ (print_end field l.before.loop.invariant l.loop-test.false) (room l.before.before.before.before))
-    (λ c. c.before.before.append-byte.auto.1.0 ∙ append_length c.before.before.before.before.before.loop.invariant.done)
-    (λ c.
-    let l = c.before.before.before.before in
-    let s = l.before.before.before.before in
-    rw (fields_runs s.args.numbers.now) (print_end field l.before.loop.invariant l.loop-test.false then c.before.before.append-byte.ensures)))
+    (λ c. print_turn field c.loop-i.invariant 0 c.loop-i-test.true c.append_field-next.ensures)
+    (λ c κs. room_rest _ (print_end field c.loop-i.invariant c.loop-i-test.false) (room c.before.before.before.before.before))
+    (λ c. c.append_byte.auto.out ∙ append_length c.loop-i.invariant.done)
+    (λ c. rw (fields_runs c.args.numbers.now) (print_end field c.loop-i.invariant c.loop-i-test.false then c.append_byte.ensures)))

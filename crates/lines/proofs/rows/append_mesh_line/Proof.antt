@@ -12,9 +12,8 @@ unfolding line mesh_line
 append_mesh_line_spec =
     tie.close
     (tie.spec
+    (λ c κs. room_first (text "mesh") _ c.requires)
     (λ c. search rules)
-    (λ c κs. room_first (text "mesh") _ c.before.before.before.requires)
+    (λ c κs. room_rest _ c.append_word-next.ensures c.requires)
     (λ c. search rules)
-    (λ c κs. room_rest _ c.before.before.before.before.append-word.ensures c.before.before.before.before.before.before.before.before.requires)
-    (λ c. search rules)
-    (λ c. c.before.before.before.before.before.before.before.append-word.ensures then c.before.before.append-fields.ensures))
+    (λ c. c.append_word-next.ensures then c.append_fields.ensures))

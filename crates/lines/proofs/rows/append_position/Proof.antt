@@ -9,32 +9,20 @@ use Rattle.lines.proofs.rows.append_position.Statement.{statement}
 use Rattle.lines.proofs.rows.append_position.Tie as tie
 
 -- what the first two calls append
-first : (c : tie.After-append-signed-field) →
-    let s = c.before.before.before in
-    Appended s.args.out.now c.append-signed-field.new.1.0 s.args.at c.append-signed-field.result (32 ∷ signed_decimal s.args.x)
-first c = rw (to_z-of_z c.before.before.before.ranges.x) at c.append-signed-field.ensures
+first : (c : tie.After-append_signed_field-a) →
+    Appended c.args.out.now c.append_signed_field-a.new.out c.args.at c.append_signed_field-a.result (32 ∷ signed_decimal c.args.x)
+first c = rw (to_z-of_z c.ranges.x) at c.append_signed_field-a.ensures
 
-second : (c : tie.After-append-signed-field2) →
-    let a = c.before.before.before.before in
-    Appended a.append-signed-field.new.1.0 c.append-signed-field2.new.1.0 a.append-signed-field.result c.append-signed-field2.result (32 ∷ signed_decimal a.before.before.before.args.y)
-second c = rw (to_z-of_z c.before.before.before.before.before.before.before.ranges.y) at c.append-signed-field2.ensures
+second : (c : tie.After-append_signed_field-b) →
+    Appended c.append_signed_field-a.new.out c.append_signed_field-b.new.out c.append_signed_field-a.result c.append_signed_field-b.result (32 ∷ signed_decimal c.args.y)
+second c = rw (to_z-of_z c.ranges.y) at c.append_signed_field-b.ensures
 
 pub append_position_spec : {M : Type 1} → statement M
 append_position_spec =
     tie.close
     (tie.spec
-    (λ c κs. let s = c.before.before in rw (to_z-of_z s.ranges.x) (room_first (32 ∷ signed_decimal s.args.x) _ s.requires))
-    (λ c κs.
-    let a = c.before.before.before in
-    let s = a.before.before.before in
-    rw (to_z-of_z s.ranges.y) (room_first (32 ∷ signed_decimal s.args.y) _ (room_rest _ (first a) s.requires)))
-    (λ c κs.
-    let b = c.before.before.before in
-    let a = b.before.before.before.before in
-    let s = a.before.before.before in
-    rw (to_z-of_z s.ranges.z) (room_rest _ (second b) (room_rest _ (first a) s.requires)))
+    (λ c κs. rw (to_z-of_z c.ranges.x) (room_first (32 ∷ signed_decimal c.args.x) _ c.requires))
+    (λ c κs. rw (to_z-of_z c.ranges.y) (room_first (32 ∷ signed_decimal c.args.y) _ (room_rest _ (first c.before.before.before) c.requires)))
+    (λ c κs. rw (to_z-of_z c.ranges.z) (room_rest _ (second c.before.before.before) (room_rest _ (first c.before.before.before.before.before.before.before) c.requires)))
     (λ c. search rules)
-    (λ c.
-    let b = c.before.before.before.before.before.before in
-    let a = b.before.before.before.before in
-    first a then second b then (rw (to_z-of_z a.before.before.before.ranges.z) at c.before.before.append-signed-field3.ensures)))
+    (λ c. first c.before.before.before.before.before.before.before.before.before.before then second c.before.before.before.before.before.before then (rw (to_z-of_z c.ranges.z) at c.append_signed_field.ensures)))

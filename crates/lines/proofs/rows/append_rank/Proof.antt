@@ -11,17 +11,8 @@ unfolding fields
 append_rank_spec =
     tie.close
     (tie.spec
-    (λ c κs. let s = c.before.before in room_first (32 ∷ decimal s.args.r.rank) _ s.requires)
-    (λ c κs.
-    let a = c.before.before.before in
-    let s = a.before.before.before in
-    room_first (32 ∷ decimal s.args.r.valence) _ (room_rest _ a.append-field.ensures s.requires))
-    (λ c κs.
-    let b = c.before.before.before in
-    let a = b.before.before.before.before in
-    room_rest _ b.append-field2.ensures (room_rest _ a.append-field.ensures a.before.before.before.requires))
+    (λ c κs. room_first (32 ∷ decimal c.args.r.rank) _ c.requires)
+    (λ c κs. room_first (32 ∷ decimal c.args.r.valence) _ (room_rest _ c.append_field-a.ensures c.requires))
+    (λ c κs. room_rest _ c.append_field-b.ensures (room_rest _ c.append_field-a.ensures c.requires))
     (λ c. search rules)
-    (λ c.
-    let b = c.before.before.before.before.before.before in
-    let a = b.before.before.before.before in
-    a.append-field.ensures then b.append-field2.ensures then c.before.before.append-byte.ensures))
+    (λ c. c.append_field-a.ensures then c.append_field-b.ensures then c.append_byte.ensures))

@@ -21,39 +21,18 @@ ending s = fields (decimal s.args.r.rank ∷ decimal s.args.r.valence ∷ [])
 room : (s : tie.Start) → Room s.args.out.now s.args.at ((text "v") ++ (field s.args.v ++ (position s ++ ending s)))
 room s = rw joined_runs at s.requires
 
--- the entry, from the vertex's number
-abbrev start : tie.After-append-field → tie.Start
-start c = c.before.before.before.before.before.before.before
-
-placed : (c : tie.After-append-position) →
-    let b = c.before.before.before.before in
-    Appended b.append-field.new.1.0 c.append-position.new.1.1.1.0 b.append-field.result c.append-position.result (position (start b))
-placed c = let s = start c.before.before.before.before in
-    rw (to_z-of_z s.fits.x, to_z-of_z s.fits.y, to_z-of_z s.fits.z) at c.append-position.ensures
+placed : (c : tie.After-append_position-c) →
+    Appended c.append_field-b.new.out c.append_position-c.new.out c.append_field-b.result c.append_position-c.result (position c.before.before.before.before.before.before.before.before.before.before.before)
+placed c = rw (to_z-of_z c.ranges.x, to_z-of_z c.ranges.y, to_z-of_z c.ranges.z) at c.append_position-c.ensures
 
 pub append_vertex_spec : {M : Type 1} → statement M
 append_vertex_spec =
     tie.close
     (tie.spec
     (λ c κs. room_first (text "v") _ (room c.before.before))
-    (λ c κs.
-    let a = c.before.before.before in
-    let s = a.before.before.before in
-    room_first (field s.args.v) _ (room_rest _ a.append-byte.ensures (room s)))
-    (λ c κs.
-    let b = c.before.before.before in
-    let a = b.before.before.before.before in
-    let s = a.before.before.before in
-    rw (to_z-of_z s.ranges.x, to_z-of_z s.ranges.y, to_z-of_z s.ranges.z)
-    (room_first (position s) (ending s) (room_rest _ b.append-field.ensures (room_rest _ a.append-byte.ensures (room s)))))
-    (λ c κs.
-    let d = c.before.before.before in
-    let b = d.before.before.before.before in
-    let a = b.before.before.before.before in
-    room_rest _ (placed d) (room_rest _ b.append-field.ensures (room_rest _ a.append-byte.ensures (room a.before.before.before))))
+    (λ c κs. room_first (field c.args.v) _ (room_rest _ c.append_byte-a.ensures (room c.before.before.before.before.before.before)))
+    (λ c κs. rw (to_z-of_z c.ranges.x, to_z-of_z c.ranges.y, to_z-of_z c.ranges.z)
+    (room_first (position c.before.before.before.before.before.before.before.before.before.before) (ending c.before.before.before.before.before.before.before.before.before.before) (room_rest _ c.append_field-b.ensures (room_rest _ c.append_byte-a.ensures (room c.before.before.before.before.before.before.before.before.before.before)))))
+    (λ c κs. room_rest _ (placed c.before.before.before) (room_rest _ c.append_field-b.ensures (room_rest _ c.append_byte-a.ensures (room c.before.before.before.before.before.before.before.before.before.before.before.before.before.before))))
     (λ c. search rules)
-    (λ c.
-    let d = c.before.before.before.before.before.before in
-    let b = d.before.before.before.before in
-    let a = b.before.before.before.before in
-    rw joined_runs (a.append-byte.ensures then b.append-field.ensures then placed d then c.before.before.append-rank.ensures)))
+    (λ c. rw joined_runs (c.append_byte-a.ensures then c.append_field-b.ensures then placed c.before.before.before.before.before.before then c.append_rank.ensures)))

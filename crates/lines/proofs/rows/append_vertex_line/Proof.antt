@@ -19,31 +19,29 @@ abbrev given : (s : tie.Start) → Mesh
 given s = mesh s.args.xs.now s.args.hexes.now s.args.quads.now s.args.segments.now s.args.points.now
 
 -- what the call prints is the vertex's line; a signed number is handed on by its bits
-printed : (c : tie.After-append-vertex-arg3) →
-    let s = c.before.before.before.before.before.before.before.before.before in
-    let r = c.before.before.before.rank-of.result in
+printed : (c : tie.After-append_vertex-arg-3-1) →
+    let r = c.rank_of-r.result in
     line (text "v")
-    (decimal s.args.v
-    ∷ signed_decimal (to_z w32 (of_z w32 (get_or s.args.xs.now (3 * s.args.v) (pos 0))))
-    ∷ signed_decimal (to_z w32 (of_z w32 (get_or s.args.xs.now (3 * s.args.v + 1) (pos 0))))
-    ∷ signed_decimal (to_z w32 (of_z w32 (get_or s.args.xs.now (3 * s.args.v + 2) (pos 0))))
+    (decimal c.args.v
+    ∷ signed_decimal (to_z w32 (of_z w32 (get_or c.args.xs.now (3 * c.args.v) (pos 0))))
+    ∷ signed_decimal (to_z w32 (of_z w32 (get_or c.args.xs.now (3 * c.args.v + 1) (pos 0))))
+    ∷ signed_decimal (to_z w32 (of_z w32 (get_or c.args.xs.now (3 * c.args.v + 2) (pos 0))))
     ∷ decimal r.rank
     ∷ decimal r.valence
     ∷ [])
-    ≡ vertex_line (given s) (topology (given s)) s.args.v
+    ≡ vertex_line (given c.before.before.before.before.before.before.before.before.before) (topology (given c.before.before.before.before.before.before.before.before.before)) c.args.v
 printed c =
-    let s = c.before.before.before.before.before.before.before.before.before in
-    let a = s.args in
-    let r = c.before.before.before.rank-of.ensures in
+    let a = c.args in
+    let r = c.rank_of-r.ensures in
     rw (
-      to_z-of_z (record { sfits = c.before.before.append-vertex-arg.given }),
-      to_z-of_z (record { sfits = c.before.append-vertex-arg2.given }),
-      to_z-of_z (record { sfits = c.append-vertex-arg3.given }),
+      to_z-of_z (record { sfits = c.append_vertex-arg-1.given }),
+      to_z-of_z (record { sfits = c.append_vertex-arg-2-1.given }),
+      to_z-of_z (record { sfits = c.append_vertex-arg-3-1.given }),
       r.0,
       r.1,
       rank_without a.xs.now a.hexes.now a.quads.now a.segments.now a.points.now a.v,
       valence_without a.xs.now a.hexes.now a.quads.now a.segments.now a.points.now a.v,
-    ) (sym (vertex_line_lem (given s) (topology (given s)) a.v))
+    ) (sym (vertex_line_lem (given c.before.before.before.before.before.before.before.before.before) (topology (given c.before.before.before.before.before.before.before.before.before)) a.v))
 
 pub append_vertex_line_spec : {M : Type 1} → statement M
 append_vertex_line_spec =
@@ -59,6 +57,6 @@ append_vertex_line_spec =
     (λ c. search rules)
     (λ c. search rules)
     (λ c. search rules)
-    (λ c κs. let read = c.before in rw (printed read) read.before.before.before.before.before.before.before.before.before.requires.1)
+    (λ c κs. rw (printed c.before) c.requires.1)
     (λ c. search rules)
-    (λ c. rw (printed c.before.before.before.before) at c.before.before.append-vertex.ensures))
+    (λ c. rw (printed c.before.before.before.before) at c.append_vertex.ensures))

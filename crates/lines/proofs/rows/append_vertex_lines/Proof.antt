@@ -16,10 +16,10 @@ use Rattle.lines.proofs.rows.append_vertex_lines.Tie as tie
 abbrev row : Mesh → ℕ → List ℕ
 row m = vertex_line m (topology m)
 
-abbrev invariant-loop : tie.invariant-loop
+abbrev invariant-loop : tie.invariant-loop-v
 invariant-loop xs hexes quads segments points out₀ at n next₀ v₀ out next v = Printing (row (mesh xs hexes quads segments points)) (up_from 0 n) out₀ out at next v
 
-abbrev decreases-loop : tie.decreases-loop
+abbrev decreases-loop : tie.decreases-loop-v
 decreases-loop xs hexes quads segments points out₀ at n next₀ v₀ out next v = n - v
 
 -- vertex v is the one of that number
@@ -34,21 +34,13 @@ append_vertex_lines_spec =
     decreases-loop
     (λ c. omega arith)
     (λ c. print_start _ _ _ _)
-    (λ c κs.
-    let l = c.before in
-    let s = l.before.before.before.before.before.before.before in
-    let n = length s.args.xs.now / 3 in
-    let h : l.before.loop.v < length (up_from 0 n) = rw (length_up_from 0 n) l.loop-test.true in
-    (l.loop-test.true, rw (numbered n l.before.loop.v l.loop-test.true) at (print_room _ l.before.loop.invariant 0 s.requires.1 h)))
-    (λ c. omega (arith, c.before.before.before.before.before.before.before.before.before.before.before.requires.0))
+    (λ c κs. let n = length c.args.xs.now / 3 in
+    let h : c.loop-v.v < length (up_from 0 n) = rw (length_up_from 0 n) c.loop-v-test.true in
+    (c.loop-v-test.true, rw (numbered n c.loop-v.v c.loop-v-test.true) at (print_room _ c.loop-v.invariant 0 c.requires.1 h)))
+    (λ c. omega (arith, c.requires.0))
     (λ c. omega arith)
-    (λ c.
-    let l = c.before.before.before.before in
-    let s = l.before.before.before.before.before.before.before in
-    let n = length s.args.xs.now / 3 in
-    let h : l.before.loop.v < length (up_from 0 n) = rw (length_up_from 0 n) l.loop-test.true in
-    print_turn _ l.before.loop.invariant 0 h (rw (numbered n l.before.loop.v l.loop-test.true) c.before.before.append-vertex-line.ensures))
-    (λ c. append_length c.before.loop.invariant.done)
-    (λ c.
-    let s = c.before.before.before.before.before.before.before in
-    print_end _ c.before.loop.invariant (rw (length_up_from 0 (length s.args.xs.now / 3)) c.loop-test.false)))
+    (λ c. let n = length c.args.xs.now / 3 in
+    let h : c.loop-v.v < length (up_from 0 n) = rw (length_up_from 0 n) c.loop-v-test.true in
+    print_turn _ c.loop-v.invariant 0 h (rw (numbered n c.loop-v.v c.loop-v-test.true) c.append_vertex_line-next.ensures))
+    (λ c. append_length c.loop-v.invariant.done)
+    (λ c. print_end _ c.loop-v.invariant (rw (length_up_from 0 (length c.args.xs.now / 3)) c.loop-v-test.false)))

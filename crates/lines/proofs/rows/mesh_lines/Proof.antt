@@ -40,16 +40,14 @@ runs-are m = ap (runs m) (single (length m.points))
 abbrev given : (s : tie.Start) → Mesh
 given s = mesh s.args.xs.now s.args.hexes.now s.args.quads.now s.args.segments.now s.args.points.now
 
-room : (c : tie.After-slice-known) → let s = c.before.before.before.before.before in Room s.args.out.now 0 (runs (given s) (length s.args.points.now))
+room : (c : tie.After-slice_known-1) → Room c.args.out.now 0 (runs (given c.before.before.before.before.before) (length c.args.points.now))
 room c =
-    let p = c.before in
-    let s = p.before.before.before.before in
-    let l = mesh_lines_length (given s) s.requires.0
-    (λ i. (p.before.before.before.shared-slice-known.given i).fits)
-    (λ i. (p.before.before.shared-slice-known2.given i).fits)
-    (λ i. (p.before.shared-slice-known3.given i).fits)
-    (λ i. (p.shared-slice-known4.given i).fits) in
-    rw (runs-are (given s)) (record { fits = omega (arith, s.requires.1) })
+    let l = mesh_lines_length (given c.before.before.before.before.before) c.requires.0
+    (λ i. (c.shared_slice_known-1.given i).fits)
+    (λ i. (c.shared_slice_known-2-1.given i).fits)
+    (λ i. (c.shared_slice_known-3-1.given i).fits)
+    (λ i. (c.shared_slice_known-4-1.given i).fits) in
+    rw (runs-are (given c.before.before.before.before.before)) (record { fits = omega (arith, c.requires.1) })
 
 pub mesh_lines_spec : {M : Type 1} → statement M
 mesh_lines_spec =
@@ -61,16 +59,7 @@ mesh_lines_spec =
     (λ c. search rules)
     (λ c. search rules)
     (λ c κs. room_first _ _ (room c.before))
-    (λ c κs.
-    let a = c.before.before.before in
-    (omega arith, room_first _ _ (room_rest _ a.append-mesh-line.ensures (room a.before.before))))
-    (λ c κs.
-    let b = c.before.before.before in
-    let a = b.before.before.before.before in
-    room_rest _ b.append-vertex-lines.ensures (room_rest _ a.append-mesh-line.ensures (room a.before.before)))
+    (λ c κs. (omega arith, room_first _ _ (room_rest _ c.append_mesh_line-a.ensures (room c.before.before.before.before.before))))
+    (λ c κs. room_rest _ c.append_vertex_lines-b.ensures (room_rest _ c.append_mesh_line-a.ensures (room c.before.before.before.before.before.before.before.before.before)))
     (λ c. search rules)
-    (λ c.
-    let b = c.before.before.before.before.before.before in
-    let a = b.before.before.before.before in
-    let s = a.before.before.before.before.before.before.before in
-    rw (← runs-are (given s)) (append_front (room a.before.before) (a.append-mesh-line.ensures then b.append-vertex-lines.ensures then c.before.before.append-cells.ensures))))
+    (λ c. rw (← runs-are (given c.before.before.before.before.before.before.before.before.before.before.before.before.before.before.before.before.before)) (append_front (room c.before.before.before.before.before.before.before.before.before.before.before.before) (c.append_mesh_line-a.ensures then c.append_vertex_lines-b.ensures then c.append_cells.ensures))))

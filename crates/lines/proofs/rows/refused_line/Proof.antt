@@ -8,7 +8,7 @@ use Rattle.lines.proofs.Longest.{refused_length}
 use Rattle.lines.proofs.rows.refused_line.Statement.{statement}
 use Rattle.lines.proofs.rows.refused_line.Tie as tie
 
-room : (s : tie.Start) → Room s.args.out.now 0 (refused_line s.args.number)
+room : (s : tie.After-append_word-next) → Room s.args.out.now 0 (refused_line s.args.number)
 room s = record { fits = omega (arith, s.requires, refused_length s.args.number s.ranges.number.fits) }
 
 pub refused_line_spec : {M : Type 1} → statement M
@@ -16,11 +16,9 @@ unfolding line refused_line
 refused_line_spec =
     tie.close
     (tie.spec
-    (λ c. search rules)
     (λ c κs. search rules)
     (λ c. search rules)
-    (λ c κs. room_rest _ c.before.before.before.before.append-word.ensures (room c.before.before.before.before.before.before.before.before))
+    (λ c κs. room_rest _ c.append_word-next.ensures (room c.before.before.before.before))
     (λ c. search rules)
     (λ c.
-    let a = c.before.before.before.before.before.before.before in
-    append_front (room a.before.before.before.before) (a.append-word.ensures then c.before.before.append-fields.ensures)))
+    append_front (room c.before.before.before.before.before.before.before) (c.append_word-next.ensures then c.append_fields.ensures)))

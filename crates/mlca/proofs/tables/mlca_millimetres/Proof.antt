@@ -7,8 +7,7 @@ use Rattle.mlca.proofs.tables.mlca_millimetres.Tie as tie
 
 returns : tie.Need-returns
 returns c =
-    let s = c.before in
-    rw (to_z-of_z w32 s.args.x s.ranges.x, to_z-of_z w32 s.args.y s.ranges.y, to_z-of_z w32 s.args.z s.ranges.z) at c.millimetres.ensures
+    rw (to_z-of_z w32 c.args.x c.ranges.x, to_z-of_z w32 c.args.y c.ranges.y, to_z-of_z w32 c.args.z c.ranges.z) at c.millimetres.ensures
 
 pub mlca_millimetres_spec : {M : Type 1} → statement M
 mlca_millimetres_spec = tie.close (tie.spec (λ c κs. search rules) returns)

@@ -3,6 +3,7 @@ use mathlib.Core.Path.{sym, ◌∙◌}
 use Prim.Native.Nat.{◌*◌}
 use native.Mathlib.Omega.{arith}
 use lib.Seq.{length-take-le}
+use mir.Syntax.{w64}
 use mir.Facts.{to_z-of_z}
 use borrow.Author.Rules.{rules}
 use Rattle.rules.specs.Mesh.{mesh}
@@ -15,16 +16,13 @@ use Rattle.mlca.proofs.viewer.count_front.Tie as tie
 signed-requires : tie.Need-signed-requires
 unfolding front_of
 signed-requires c κs =
-    let w = c.before in
-    let s = c.before.before.before.before.before.before.before.before.before.before.before.before.before.before.before.before.before in
-    let l = length-take-le (3 * s.args.c.vertices) s.args.xs.now s.requires.vertices in
-    irregular_fits (front s.args.c (mesh s.args.xs.now s.args.hexes.now s.args.quads.now s.args.segments.now s.args.points.now)) w.irregular-count.result (omega (arith, l, s.requires.vertices, s.well-formed.1.0.1)) w.irregular-count.ensures.0
+    let l = length-take-le (3 * c.args.c.vertices) c.args.xs.now c.requires.vertices in
+    irregular_fits (front c.args.c (mesh c.args.xs.now c.args.hexes.now c.args.quads.now c.args.segments.now c.args.points.now)) c.irregular_count-w.result (omega (arith, l, c.requires.vertices, c.well_formed.1.0.1)) c.irregular_count-w.ensures.0
 
 returns : tie.Need-returns
 unfolding front_of
 returns c =
-    let w = c.before.before in
-    to_z-of_z (record { sfits = c.signed.type-inv }) ∙ c.signed.ensures ∙ irregular_number _ w.irregular-count.result w.irregular-count.ensures.0
+    to_z-of_z {w = w64} (record { sfits = c.signed.type_inv }) ∙ c.signed.ensures ∙ irregular_number _ c.irregular_count-w.result c.irregular_count-w.ensures.0
 
 pub count_front_spec : {M : Type 1} → statement M
 count_front_spec =
@@ -39,11 +37,11 @@ count_front_spec =
     (λ c. search rules)
     (λ c. search rules)
     (λ c. search rules)
-    (λ c. sym (length-take-le _ _ c.before.before.before.before.before.before.before.before.before.before.requires.vertices))
-    (λ c. sym (length-take-le _ _ c.before.before.before.before.before.before.before.before.before.before.before.requires.hexes))
-    (λ c. sym (length-take-le _ _ c.before.before.before.before.before.before.before.before.before.before.before.before.requires.quads))
-    (λ c. sym (length-take-le _ _ c.before.before.before.before.before.before.before.before.before.before.before.before.before.requires.segments))
-    (λ c. sym (length-take-le _ _ c.before.before.before.before.before.before.before.before.before.before.before.before.before.before.requires.points))
+    (λ c. sym (length-take-le _ _ c.requires.vertices))
+    (λ c. sym (length-take-le _ _ c.requires.hexes))
+    (λ c. sym (length-take-le _ _ c.requires.quads))
+    (λ c. sym (length-take-le _ _ c.requires.segments))
+    (λ c. sym (length-take-le _ _ c.requires.points))
     (λ c. search rules)
     (λ c κs. search rules)
     signed-requires

@@ -2,6 +2,7 @@
 use mathlib.Core.Path.{◌≡◌, refl, ◌∙◌}
 use lib.ListN.{replicate}
 use lib.IntN.{pos}
+use mir.Syntax.{w64}
 use mir.Facts.{to_z-of_z}
 use borrow.Author.Rules.{rules}
 use Rattle.rules.specs.Mesh.{Mesh, mesh}
@@ -16,31 +17,28 @@ abbrev tables : Mesh
 tables = mesh (replicate 3_000 (pos 0)) (replicate 2_048 0) (replicate 1_024 0) (replicate 512 0) (replicate 256 0)
 
 -- what the call of `read` promised
-read_done : (d : tie.After-read) →
+read_done : (d : tie.After-read-r) →
     Reading
-    d.before.before.before.before.before.before.before.args.stored.now
+    d.args.stored.now
     tables
-    (mesh d.read.new.1.0 d.read.new.1.1.0 d.read.new.1.1.1.0 d.read.new.1.1.1.1.0 d.read.new.1.1.1.1.1.0)
-    d.read.result
+    (mesh d.read-r.new.xs d.read-r.new.hexes d.read-r.new.quads d.read-r.new.segments d.read-r.new.points)
+    d.read-r.result
 unfolding counts_of
-read_done d = record { sizes = refl; answer = d.read.ensures.0; output = d.read.ensures.1.0 }
+read_done d = record { sizes = refl; answer = d.read-r.ensures.0; output = d.read-r.ensures.1.0 }
 
-returns : tie.Need-returns
+returns : tie.Need-returns-then-refusal-ne0
 returns c =
-    let i = c.before in
-    to_z-of_z (record { sfits = c.signed.type-inv }) ∙ c.signed.ensures ∙ reading_refused (read_done i.before.before.before.before.before.before) i.if1.true
+    to_z-of_z {w = w64} (record { sfits = c.signed.type_inv }) ∙ c.signed.ensures ∙ reading_refused (read_done c.before.before.before.before.before.before.before) c.if-refusal-ne0.true
 
-count-front-requires : tie.Need-count-front-requires
+count-front-requires : tie.Need-count_front-requires
 count-front-requires c κs =
-    let i = c.before.before.before.before.before.before in
-    read_room (read_done i.before.before.before.before.before.before) i.if1.false
+    read_room (read_done c.before.before.before.before.before.before.before.before.before.before.before.before) c.if-refusal-ne0.false
 
-returns-2 : tie.Need-returns-2
+returns-2 : tie.Need-returns
 returns-2 c =
-    let i = c.before.before.before.before.before.before.before in
-    let d = read_done i.before.before.before.before.before.before in
-    let e = rw (read_front d i.if1.false) at c.count-front.ensures in
-    to_z-of_z (record { sfits = c.count-front.type-inv }) ∙ e ∙ then_counted d i.if1.false
+    let d = read_done c.before.before.before.before.before.before.before.before.before.before.before.before.before in
+    let e = rw (read_front d c.if-refusal-ne0.false) at c.count_front.ensures in
+    to_z-of_z {w = w64} (record { sfits = c.count_front.type_inv }) ∙ e ∙ then_counted d c.if-refusal-ne0.false
 
 pub mlca_irregular_count_spec : {M : Type 1} → statement M
 mlca_irregular_count_spec =

@@ -2,6 +2,7 @@
 use mathlib.Core.Path.{◌≡◌, refl, ◌∙◌}
 use lib.ListN.{replicate}
 use lib.IntN.{pos}
+use mir.Syntax.{w64}
 use mir.Facts.{to_z-of_z}
 use borrow.Author.Rules.{rules}
 use Rattle.rules.specs.Mesh.{Mesh, mesh}
@@ -17,41 +18,34 @@ abbrev tables : Mesh
 tables = mesh (replicate 3_000 (pos 0)) (replicate 2_048 0) (replicate 1_024 0) (replicate 512 0) (replicate 256 0)
 
 -- what the call of `refine_stored` promised
-refined-done : (d : tie.After-refine-stored) →
-    let s = d.before.before.before.before.before.before.before.before in
-    Refining s.args.stored.now s.args.rounds tables
-    (mesh d.refine-stored.new.1.1.0 d.refine-stored.new.1.1.1.0 d.refine-stored.new.1.1.1.1.0 d.refine-stored.new.1.1.1.1.1.0 d.refine-stored.new.1.1.1.1.1.1.0)
-    d.refine-stored.result
-refined-done d = record { answer = d.refine-stored.ensures.0; output = d.refine-stored.ensures.1 }
+refined-done : (d : tie.After-refine_stored-r) →
+    Refining d.args.stored.now d.args.rounds tables
+    (mesh d.refine_stored-r.new.ox d.refine_stored-r.new.oh d.refine_stored-r.new.oq d.refine_stored-r.new.os d.refine_stored-r.new.op)
+    d.refine_stored-r.result
+refined-done d = record { answer = d.refine_stored-r.ensures.0; output = d.refine_stored-r.ensures.1 }
 
-refine-stored-requires : tie.Need-refine-stored-requires
+refine-stored-requires : tie.Need-refine_stored-r-requires
 unfolding counts_of
 refine-stored-requires c κs = refl
 
-returns : tie.Need-returns
+returns : tie.Need-returns-then-refusal-ne0
 returns c =
-    let i = c.before in
-    let a = i.before.before.before.before.before.before in
-    let d = refined-done a in
-    let start = a.before.before.before.before.before.before.before.before.args in
-    let buffer = start.result.now in
-    promised start.stored.now start.rounds buffer (to_z-of_z (record { sfits = c.signed.type-inv }) ∙ c.signed.ensures ∙ refining_refused d buffer i.if1.true) (refining_kept d buffer i.if1.true)
+    let d = refined-done c.before.before.before.before.before.before.before in
+    let start = c.args in
+    let buffer = start.res.now in
+    promised start.stored.now start.rounds buffer (to_z-of_z {w = w64} (record { sfits = c.signed.type_inv }) ∙ c.signed.ensures ∙ refining_refused d buffer c.if-refusal-ne0.true) (refining_kept d buffer c.if-refusal-ne0.true)
 
-write-front-requires : tie.Need-write-front-requires
+write-front-requires : tie.Need-write_front-requires
 write-front-requires c κs =
-    let i = c.before.before.before.before.before.before.before in
-    finished_room (refined-done i.before.before.before.before.before.before) i.if1.false
+    finished_room (refined-done c.before.before.before.before.before.before.before.before.before.before.before.before.before) c.if-refusal-ne0.false
 
-returns-2 : tie.Need-returns-2
+returns-2 : tie.Need-returns
 returns-2 c =
-    let w = c.before.before in
-    let i = w.before.before.before.before.before.before.before.before in
-    let a = i.before.before.before.before.before.before in
-    let d = refined-done a in
-    let start = a.before.before.before.before.before.before.before.before.args in
-    let buffer = start.result.now in
-    let e = rw (finished_front d i.if1.false) at w.write-front.ensures in
-    promised start.stored.now start.rounds buffer (to_z-of_z (record { sfits = w.write-front.type-inv }) ∙ e.0 ∙ written_answer d buffer i.if1.false) (e.1 ∙ written_output d buffer i.if1.false)
+    let d = refined-done c.before.before.before.before.before.before.before.before.before.before.before.before.before.before.before.before in
+    let start = c.args in
+    let buffer = start.res.now in
+    let e = rw (finished_front d c.if-refusal-ne0.false) at c.write_front.ensures in
+    promised start.stored.now start.rounds buffer (to_z-of_z {w = w64} (record { sfits = c.write_front.type_inv }) ∙ e.0 ∙ written_answer d buffer c.if-refusal-ne0.false) (e.1 ∙ written_output d buffer c.if-refusal-ne0.false)
 
 pub mlca_refine_spec : {M : Type 1} → statement M
 mlca_refine_spec =

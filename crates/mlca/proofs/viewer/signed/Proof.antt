@@ -12,20 +12,18 @@ use Rattle.mlca.proofs.Numbers.{neg_fits, minus, below_zero}
 use Rattle.mlca.proofs.viewer.signed.Statement.{statement}
 use Rattle.mlca.proofs.viewer.signed.Tie as tie
 
-sub-result : tie.Need-overflow-sub-result
-sub-result c = let n = c.before.args.refusal in rw (minus n (omega arith)) (neg_fits n (omega arith))
+sub-result : tie.Need-overflow_sub-result
+sub-result c = let n = c.args.refusal in rw (minus n (omega arith)) (neg_fits n (omega arith))
 
-returns : tie.Need-returns
+returns : tie.Need-returns-then-refusal-ne0
 returns c =
-    let s = c.before in
-    let n = s.args.refusal in
+    let n = c.args.refusal in
     let h : n < 2 ^ 63 = omega arith in
-    rw (minus n h) (to_z-of_z (neg_fits n h) ∙ below_zero n s.args.count c.if1.true)
+    rw (minus n h) (to_z-of_z (neg_fits n h) ∙ below_zero n c.args.count c.if-refusal-ne0.true)
 
-returns-2 : tie.Need-returns-2
+returns-2 : tie.Need-returns
 returns-2 c =
-    let s = c.before in
-    rw c.if1.false (to_z_pos w64 s.args.count s.requires)
+    rw c.if-refusal-ne0.false (to_z_pos w64 c.args.count c.requires)
 
 pub signed_spec : {M : Type 1} → statement M
 signed_spec = tie.close (tie.spec (λ c. search rules) sub-result returns (λ c. search rules) returns-2)

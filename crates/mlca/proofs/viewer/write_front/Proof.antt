@@ -2,6 +2,7 @@
 use mathlib.Core.Path.{sym, ◌∙◌}
 use native.Mathlib.Omega.{arith}
 use lib.Seq.{length-take-le}
+use mir.Syntax.{w64}
 use mir.Facts.{to_z-of_z}
 use borrow.Author.Rules.{rules}
 use Rattle.rules.specs.EntryPoints.{front_of}
@@ -13,14 +14,12 @@ use Rattle.mlca.proofs.viewer.write_front.Tie as tie
 signed-requires : tie.Need-signed-requires
 unfolding front_of
 signed-requires c κs =
-    let w = c.before.before in
-    bytes_fit _ _ w.write.result c.before.before.before.before.before.before.before.before.before.before.before.before.before.before.before.before.before.before.before.well-formed.1.1.1.1.1.1.0.1 w.write.ensures.0
+    bytes_fit _ _ c.write-w.result c.well_formed.1.1.1.1.1.1.0.1 c.write-w.ensures.0
 
 returns : tie.Need-returns
 unfolding front_of
 returns c =
-    let w = c.before.before.before in
-    (to_z-of_z (record { sfits = c.signed.type-inv }) ∙ c.signed.ensures ∙ writing_number _ _ w.write.result w.write.ensures.0, w.write.ensures.1.0)
+    (to_z-of_z {w = w64} (record { sfits = c.signed.type_inv }) ∙ c.signed.ensures ∙ writing_number _ _ c.write-w.result c.write-w.ensures.0, c.write-w.ensures.1.0)
 
 pub write_front_spec : {M : Type 1} → statement M
 write_front_spec =
@@ -35,11 +34,11 @@ write_front_spec =
     (λ c. search rules)
     (λ c. search rules)
     (λ c. search rules)
-    (λ c. sym (length-take-le _ _ c.before.before.before.before.before.before.before.before.before.before.before.requires.vertices))
-    (λ c. sym (length-take-le _ _ c.before.before.before.before.before.before.before.before.before.before.before.before.requires.hexes))
-    (λ c. sym (length-take-le _ _ c.before.before.before.before.before.before.before.before.before.before.before.before.before.requires.quads))
-    (λ c. sym (length-take-le _ _ c.before.before.before.before.before.before.before.before.before.before.before.before.before.before.requires.segments))
-    (λ c. sym (length-take-le _ _ c.before.before.before.before.before.before.before.before.before.before.before.before.before.before.before.requires.points))
+    (λ c. sym (length-take-le _ _ c.requires.vertices))
+    (λ c. sym (length-take-le _ _ c.requires.hexes))
+    (λ c. sym (length-take-le _ _ c.requires.quads))
+    (λ c. sym (length-take-le _ _ c.requires.segments))
+    (λ c. sym (length-take-le _ _ c.requires.points))
     (λ c κs. search rules)
     signed-requires
     (λ c. search rules)
