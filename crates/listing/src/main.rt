@@ -2,12 +2,29 @@
 // refusal. What is printed is what `lines::lines` promises; this file only reads and writes.
 #![tactic(auto)]
 
-use libc::{STDIN_FILENO, STDOUT_FILENO};
+ghost use Rattle.std.specs.Prelude.{◌≤◌, length, IfOk};
 
-fn main() {
+use std::io::{self, Input, Print, Read};
+
+// Reads until the input ends or the buffer is full: how many bytes it read.
+fn read_full<R: Read>(reader: &mut R, buffer: &mut [u8]) -> io::Result<usize>
+    ensures { IfOk result (λ n. n ≤ length buffer.old) }
+{
+    let mut n = 0;
+    while n < buffer.len() {
+        let more = reader.read(&mut buffer[n..])?;
+        if more == 0 {
+            break;
+        }
+        n += more;
+    }
+    Ok(n)
+}
+
+fn main(rt: HostRuntime) -> io::Result<()> {
     let mut input = [0u8; 16386];
-    let n = io::read_full(STDIN_FILENO, &mut input);
+    let n = read_full(&mut rt.reader(), &mut input)?;
     let mut out = [0u8; 112348];
     let count = lines::lines(&input, n, &mut out);
-    io::write_all(STDOUT_FILENO, &out[..count]);
+    rt.write_all(&out[..count])
 }
