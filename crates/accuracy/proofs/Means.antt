@@ -8,7 +8,7 @@ use native.Mathlib.Nat.{mul-pos}
 use lib.Pow.{pow_pos}
 use lib.ListN.{length, get_or}
 use Rattle.rules.specs.Lists.{Each, up_from, Key}
-use Rattle.rules.specs.Mesh.{Kind, hex, quad, segment, point, dimension, corners, whole, Topology, cells_of}
+use Rattle.rules.specs.Mesh.{Kind, hex, quad, segment, point, dimension, corners, Topology, cells_of}
 use Rattle.rules.specs.Split.{parts, split_by, split}
 use Rattle.rules.specs.Means.{Draw, Mean, no_mean, mean_of}
 use Rattle.rules.specs.Averaging.{counted, rank, valence, eighths, cell_draws, mean_at, means}

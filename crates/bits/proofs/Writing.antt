@@ -1,6 +1,6 @@
 -- Fields put one behind another from bit 0 on leave their stored form, and the bytes behind it as they were (`put_encode`).
 use Prim.Native.Nat.{ℕ, ◌+◌, ◌-◌, ◌*◌, ◌^◌, ◌≤◌, ◌<◌}
-use mathlib.Core.Path.{◌≡◌, refl, sym, ap, ap₂, ◌∙◌, subst}
+use mathlib.Core.Path.{◌≡◌, refl, sym, ap, ap₂, ◌∙◌}
 use mathlib.Core.List.{List, [], ◌∷◌, ◌++◌, map-append}
 use native.Mathlib.Nat.{add_assoc, add-zero, zero-add, mul-zero}
 use native.Mathlib.Numerals.{add-one}

@@ -5,8 +5,6 @@ use mathlib.Core.List.{List, [], ◌∷◌, map}
 use Prim.Native.Nat.{ℕ, suc, ◌+◌, ◌*◌, ◌%◌, ◌^◌, ◌<◌, ◌≤◌}
 use native.Mathlib.Nat.{div-le_self, mod-lt, div-lt_iff_lt-mul, mul_comm, mul-lt-mul_of_pos_right}
 use native.Mathlib.Omega.{arith}
-use denote.Enum.Declared.{tag_of}
-use types.Run.{OneOf, miss}
 use lib.Dec.{leb, ltb, eqb, lit<}
 use lib.ListN.{length}
 use borrow.Author.Tests.{ltb-true, ltb-false, eqb-true, eqb-false, lt-ltb, le-ltb}
@@ -17,10 +15,8 @@ use Rattle.lists.proofs.Once.{once_keep, length_same}
 use Rattle.lists.proofs.Distinct.{in_distinct, distinct_in, once_distinct}
 use Rattle.checks.specs.declared.classes.Walk.{Walk}
 use Rattle.checks.specs.declared.classes.Walk.TheVariants.{Edges, Faces, Cells}
-use Rattle.checks.specs.Walk.{met_in}
 use Rattle.checks.specs.Classes.{walked, Size, squared, total, class_of, in_class}
 use Rattle.checks.proofs.WalkLaws.{met_fits}
-use Rattle.checks.specs.contracts.classes.Walk.{the_type}
 
 -- ---- what is walked
 

@@ -2,7 +2,7 @@
 use mathlib.Core.Path.{◌≡◌, refl, sym, ap, ◌∙◌, subst}
 use mathlib.Core.Bool.{Bool, true, false, not, ◌||◌}
 use mathlib.Core.Logic.{inl, inr, ⊎_elim}
-use mathlib.Core.List.{List, [], ◌∷◌, ◌++◌, map, map-append, map-map, append-nil}
+use mathlib.Core.List.{List, [], ◌∷◌, ◌++◌, map, map-append, map-map}
 use Prim.Native.Nat.{ℕ, suc, ◌/◌, ◌<◌, ◌≤◌}
 use native.Mathlib.Omega.{arith}
 use lib.Dec.{eqb, lit<}
@@ -24,7 +24,7 @@ use Rattle.numbering.specs.declared.parts.Parts.TheVariants.{HexEdges, HexFaces,
 use Rattle.numbering.specs.Parts.{kind_of, dimension_of, places_of, part_corners, cell_corners, part_keys, table_keys}
 use Rattle.numbering.specs.Count.{edge_keys}
 use Rattle.checks.specs.Walk.{parts_of, met_in, count_in}
-use Rattle.checks.proofs.WalkLaws.{length_parts, met_is}
+use Rattle.checks.proofs.WalkLaws.{met_is}
 
 -- where a key repeats, one of its places can be left out
 record Shorter (ks : List Key) : Type 0 where

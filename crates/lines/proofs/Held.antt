@@ -6,7 +6,7 @@ use Prim.Native.Nat.{ℕ, suc, ◌+◌, ◌<◌}
 use native.Mathlib.Omega.{arith}
 use lib.ListN.{length, get_or, take, length-append}
 use lib.Seq.{take-suc}
-use Rattle.rules.specs.Lists.{keep, cut, has}
+use Rattle.rules.specs.Lists.{keep}
 use Rattle.rules.specs.Mesh.{Topology}
 use Rattle.rules.specs.Averaging.{holding, Counted, or_else, counted, rank, valence}
 

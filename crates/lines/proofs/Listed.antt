@@ -1,11 +1,10 @@
 -- What is listed of a refusal and of a finished mesh, and the tests of the input. Assumes nothing.
 use mathlib.Core.Path.{◌≡◌, refl, sym, ap, ◌∙◌}
-use mathlib.Core.Bool.{true, false}
 use mathlib.Core.List.{List, [], ◌∷◌}
-use Prim.Native.Nat.{ℕ, zero, suc, ◌-◌, ◌*◌, ◌≤◌, ◌<◌}
+use Prim.Native.Nat.{ℕ, zero, suc, ◌-◌, ◌≤◌, ◌<◌}
 use native.Mathlib.Decide.{dec_lt}
 use native.Mathlib.Omega.{arith}
-use lib.Dec.{ltb, eqb}
+use lib.Dec.{ltb}
 use lib.ListN.{length, take, drop, get_or}
 use lib.Seq.{take_all, length-take-le, get_or-take}
 use borrow.Author.Tests.{lt-ltb, le-ltb, ltb-false, ne_eqb}
@@ -14,7 +13,7 @@ use Rattle.rules.specs.Mesh.{Mesh, topology}
 use Rattle.rules.specs.Averaging.{refined}
 use Rattle.rules.specs.Counts.{finished_counts, fewer}
 use Rattle.rules.specs.StoredForm.{stored_mesh}
-use Rattle.rules.specs.Viewer.{fixed_counts, stored_refining_refusal}
+use Rattle.rules.specs.Viewer.{stored_refining_refusal}
 use Rattle.rules.specs.Listing.{refused_line, mesh_lines, listing_refusal, listed, listing}
 use Rattle.lists.proofs.Tests.{or_neither}
 use Rattle.accuracy.proofs.Accepted.{refined_near}

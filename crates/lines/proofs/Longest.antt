@@ -1,14 +1,13 @@
 -- How long the lines of a mesh can be. Assumes nothing.
-use mathlib.Core.Path.{◌≡◌, refl, sym, ap, ◌∙◌}
-use mathlib.Core.Bool.{Bool, true, false}
+use mathlib.Core.Path.{◌≡◌, refl, sym, ◌∙◌}
 use mathlib.Core.Logic.{inl, inr}
-use mathlib.Core.List.{List, [], ◌∷◌, ◌++◌, map}
+use mathlib.Core.List.{List, [], ◌∷◌, map}
 use Prim.Native.Nat.{ℕ, zero, suc, ◌+◌, ◌*◌, ◌/◌, ◌^◌, ◌≤◌, ◌<◌}
 use native.Mathlib.Omega.{arith}
 use lib.ListN.{length, get_or, take, drop, length-append, length-map}
 use lib.Seq.{get_or-drop}
-use lib.IntN.{ℤ, pos, negsuc, nat_abs}
-use Rattle.rules.specs.Lists.{Each, concat_map, entries, cut, keep, has, up_from}
+use lib.IntN.{ℤ, pos, negsuc}
+use Rattle.rules.specs.Lists.{Each, concat_map, cut, has, up_from}
 use Rattle.rules.specs.Mesh.{Mesh, Topology, topology}
 use Rattle.rules.specs.Averaging.{holding, Counted, or_else, counted, rank, valence}
 use Rattle.rules.specs.Counts.{counts_of}

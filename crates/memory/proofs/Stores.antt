@@ -8,7 +8,7 @@ use native.Mathlib.Nat.{add-zero, zero-add}
 use native.Mathlib.Numerals.{add-one}
 use native.Mathlib.Omega.{arith}
 use lib.ListN.{length, get_or, set, take, drop, replicate, length-set, length-drop, length-replicate, get_or-replicate, drop_of_length-le}
-use lib.Seq.{take_all, take-length, take-suc, length-take-le, drop-drop, sets, sets-eq, length-sets, get_or-set_same, get_or-set_other}
+use lib.Seq.{take_all, take-suc, length-take-le, drop-drop, sets, sets-eq, get_or-set_same, get_or-set_other}
 use Rattle.rules.specs.Lists.{overwritten}
 
 module _ {A : Type 0} where

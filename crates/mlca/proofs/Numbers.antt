@@ -5,14 +5,14 @@ use mathlib.Core.List.{List}
 use Prim.Native.Nat.{ℕ, zero, suc, ◌/◌, ◌*◌, ◌^◌, ◌≤◌, ◌<◌}
 use native.Mathlib.Omega.{arith}
 use lib.Dec.{ltb}
-use lib.ListN.{length, take}
-use lib.IntN.{pos, negsuc, neg_ℤ, ◌-ℤ◌, +ℤ_idl}
+use lib.ListN.{length}
+use lib.IntN.{pos, neg_ℤ, ◌-ℤ◌, +ℤ_idl}
 use mir.Val.{SFits, to_z}
 use mir.Syntax.{w64}
 use mir.ValLaws.{to_z_pos}
 use borrow.Author.Tests.{ltb-false}
 use Rattle.rules.specs.declared.CountAnswer.{CountAnswer}
-use Rattle.rules.specs.Lists.{keep, up_from}
+use Rattle.rules.specs.Lists.{up_from}
 use Rattle.rules.specs.Mesh.{Mesh, topology}
 use Rattle.rules.specs.Refusals.{check, mesh_checks}
 use Rattle.rules.specs.EntryPoints.{count_answer, irregular, irregular_count, irregular_answer}

@@ -8,7 +8,7 @@ use Rattle.rules.specs.Refusals.{check, partial_entry, count_out_of_range, coord
 use Rattle.rules.specs.EntryPoints.{round_checks}
 use Rattle.rules.specs.Viewer.{and_then}
 use Rattle.soundness.specs.Accepted.{Accepted}
-use Rattle.soundness.proofs.Checks.{checks_accept, accepted_passes}
+use Rattle.soundness.proofs.Checks.{checks_accept}
 
 -- ---- the later checks count only where the earlier ones refuse nothing
 

@@ -6,7 +6,6 @@ use Prim.Native.Nat.{ℕ, ◌+◌, ◌*◌, ◌^◌, ◌≤◌}
 use native.Mathlib.Omega.{arith}
 use lib.ListN.{length, length-append, length-map}
 use Rattle.rules.specs.declared.Counts.{Counts}
-use Rattle.rules.specs.declared.Sizes.{Sizes}
 use Rattle.rules.specs.Lists.{concat_map, up_from, key_of}
 use Rattle.rules.specs.Mesh.{Mesh, Kind, hex, quad, segment, point, Topology, topology, cells_of, whole, singles, by_dimension, places}
 use Rattle.rules.specs.Split.{corners_at, met, distinct_parts}

@@ -1,6 +1,6 @@
 -- Check 11 after the others: what acceptance tells of lent memory, and what the answer and the output tables then are. Assumes nothing.
 use mathlib.Core.Path.{◌≡◌, refl, sym, ap, subst, ◌∙◌}
-use mathlib.Core.Bool.{Bool, true, false, ◌||◌}
+use mathlib.Core.Bool.{Bool, false, ◌||◌}
 use mathlib.Core.List.{List}
 use Prim.Native.Nat.{ℕ, zero, suc, ◌*◌, ◌/◌, ◌≤◌, ◌<◌}
 use native.Mathlib.Nat.{div-lt_iff_lt-mul, mul_comm}
@@ -15,7 +15,7 @@ use Rattle.rules.specs.Mesh.{Mesh, topology}
 use Rattle.rules.specs.Averaging.{refined}
 use Rattle.rules.specs.Counts.{sizes, sizes_after, counts_in, counts_of, finished_counts, fewer}
 use Rattle.rules.specs.Refusals.{check}
-use Rattle.rules.specs.EntryPoints.{Lent as Lengths, counts_answer, round_checks, result_tables, lent_by, short_for_refining, refining_refusal, refining_answer, refining_output}
+use Rattle.rules.specs.EntryPoints.{Lent as Lengths, counts_answer, result_tables, lent_by, short_for_refining, refining_refusal, refining_answer, refining_output}
 use Rattle.rules.specs.Viewer.{and_then}
 use Rattle.lists.proofs.Tests.{or_neither, false_together, is_false}
 use Rattle.soundness.specs.Growth.{InRange}
@@ -25,7 +25,6 @@ use Rattle.plan.proofs.Refusals.{check_passes, both_pass, rounds_then, Passed}
 use Rattle.plan.proofs.Plans.{same_answer, plan_passed, plan_counts, plan_in_range}
 use Rattle.rounds.specs.Front.{Room}
 use Rattle.rounds.specs.Ready.{ReadyFor}
-use Rattle.refine.specs.declared.lending.Lent.{Lent}
 use Rattle.refine.specs.Lengths.{lengths}
 
 -- ---- lent numbers

@@ -1,8 +1,7 @@
 -- One round: what splitting and averaging need, and what they leave. Assumes nothing.
-use mathlib.Core.Path.{◌≡◌, refl, sym, ap, subst, ◌∙◌}
-use mathlib.Core.Bool.{false}
+use mathlib.Core.Path.{◌≡◌, sym, ap, subst, ◌∙◌}
 use mathlib.Core.List.{List}
-use Prim.Native.Nat.{ℕ, ◌+◌, ◌*◌, ◌/◌, ◌^◌, ◌≤◌, ◌<◌}
+use Prim.Native.Nat.{ℕ, ◌+◌, ◌*◌, ◌/◌, ◌≤◌, ◌<◌}
 use native.Mathlib.Omega.{arith}
 use lib.ListN.{length, take}
 use lib.IntN.{ℤ}
@@ -12,7 +11,7 @@ use Rattle.rules.specs.Lists.{concat, overwritten}
 use Rattle.rules.specs.Mesh.{Mesh, mesh, Kind, hex, quad, segment, point, corners, topology, cells_of, mesh_of}
 use Rattle.rules.specs.Split.{edges, faces, parts, split}
 use Rattle.rules.specs.Averaging.{averaged, means, round}
-use Rattle.rules.specs.Counts.{sizes, next_sizes, counts_in, counts_of, out_of_range}
+use Rattle.rules.specs.Counts.{sizes, next_sizes, counts_in, counts_of}
 use Rattle.rules.specs.Refusals.{count_out_of_range}
 use Rattle.rules.specs.EntryPoints.{result_tables}
 use Rattle.lists.proofs.Tables.{length_concat}
@@ -21,7 +20,6 @@ use Rattle.soundness.proofs.SplitSizes.{split_sizes, length_numbered}
 use Rattle.soundness.proofs.Rounds.{counts_now, in_range_lem, split_sized}
 use Rattle.splitting.specs.Ready.{Places, Ready as Splittable}
 use Rattle.averaging.specs.Ready.{table, Ready as Averageable}
-use Rattle.rounds.specs.Front.{Room}
 use Rattle.rounds.specs.Ready.{Ready}
 use Rattle.tables.proofs.Five.{same_mesh}
 use Rattle.rounds.proofs.Turns.{begins}

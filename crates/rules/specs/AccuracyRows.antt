@@ -1,9 +1,9 @@
 -- Rows of the table of samples: the exact coordinates, what feeds a coordinate, and the third property, kept and broken.
-use Rattle.std.specs.Prelude.{Bool, true, false, List, [], ◌∷◌, ◌++◌, map, ℕ, replicate, ℤ, pos, negsuc}
-use Rattle.rules.specs.Lists.{concat_map, up_from}
-use Rattle.rules.specs.Mesh.{Mesh, mesh, topology}
-use Rattle.rules.specs.Averaging.{axis, means, split_times, rounds_of}
-use Rattle.rules.specs.Accuracy.{common, exact_divisor, exact, draws_on, Division, feeding, left, has_remainder, lesser, greater, least_of, greatest_of, least, greatest, in_box, accurate as near, accurate_at, accuracies}
+use Rattle.std.specs.Prelude.{true, false, List, [], ◌∷◌, ◌++◌, map, replicate, pos, negsuc}
+use Rattle.rules.specs.Lists.{up_from}
+use Rattle.rules.specs.Mesh.{topology}
+use Rattle.rules.specs.Averaging.{axis, split_times, rounds_of}
+use Rattle.rules.specs.Accuracy.{common, exact_divisor, exact, draws_on, Division, feeding, left, has_remainder, least, greatest, in_box, accurate as near, accurate_at, accuracies}
 use Rattle.rules.specs.SampleMeshes.{line, wire, bar, tent, slope, mixed}
 use Rattle.rules.specs.SampleClaims.{exactly, division, fed_by, accurate, inaccurate, numbers, lists, wholes, truths, flat, Row, row, fact}
 

@@ -1,10 +1,9 @@
 -- Rows of the table of samples: answers and lent memory, accepted and refused; the irregular count; the millimetre report.
-use Rattle.std.specs.Prelude.{true, false, List, [], ◌∷◌, ◌++◌, map, ℕ, replicate, ℤ, pos, negsuc, Float}
+use Rattle.std.specs.Prelude.{true, false, List, [], ◌∷◌, ◌++◌, map, replicate, pos, negsuc}
 use Rattle.std.specs.Float.{fin}
 use Rattle.rules.specs.Mesh.{Mesh, mesh, topology}
 use Rattle.rules.specs.Averaging.{split_times}
-use Rattle.rules.specs.Counts.{no_counts}
-use Rattle.rules.specs.EntryPoints.{counts_answer, count_answer, result_buffer, result_tables, front_of, front, cleared, cleared_tables, finished_answer, Lent, lent_by, refining_answer, refining_output, irregular, irregular_count, irregular_answer, in_millimetres, millimetres_refusal, millimetres_answer}
+use Rattle.rules.specs.EntryPoints.{counts_answer, count_answer, result_buffer, result_tables, front, cleared, cleared_tables, finished_answer, lent_by, refining_answer, refining_output, irregular, irregular_answer, millimetres_refusal, millimetres_answer}
 use Rattle.rules.specs.SampleMeshes.{tally, line, wire, bar, cube, grid, hub, mixed, every_kind, lent_tables, work_tables, long_tables}
 use Rattle.rules.specs.SampleClaims.{irregulars, millimetres, numbers, lists, truths, tables, position, five, answered, counted, Row, row, fact}
 

@@ -1,13 +1,13 @@
 -- Rows of the table of samples: the small functions that the rules are written with, the parts of a cell and of a mesh, one division.
-use Rattle.std.specs.Prelude.{true, false, List, [], ◌∷◌, ◌++◌, map, ℕ, suc, length, replicate, ℤ, pos, negsuc, ltb, eqb}
-use Rattle.rules.specs.Lists.{any, keep, repeats, concat, entries, cut, overwritten, concat_map, up_from, has, insert, key_of, same, index_of, meet, meet_all, distinct}
-use Rattle.rules.specs.Mesh.{Mesh, mesh, Kind, hex, quad, segment, point, kinds, dimension, corners, Topology, cells_of, topology, mesh_of, hex_edges, hex_faces, quad_edges, whole, singles, by_dimension, places, cell_parts, first_holding, smallest, smallest_table, place_of}
-use Rattle.rules.specs.Split.{corners_at, key_at, met, distinct_parts, edges, faces, parts, fine_vertex, child, children, split_by, split}
-use Rattle.rules.specs.Means.{floor_div, floor_mod, Draw, Mean, no_mean, mean_of, coordinate, total, rounded, remainder}
-use Rattle.rules.specs.Averaging.{holding, counted, rank, valence, eighths, cell_draws, mean_at, means, axis, averaged, round, split_times}
+use Rattle.std.specs.Prelude.{true, false, List, [], ◌∷◌, ◌++◌, map, ℕ, suc, length, replicate, pos, negsuc, ltb, eqb}
+use Rattle.rules.specs.Lists.{any, keep, repeats, concat, entries, cut, overwritten, concat_map, up_from, has, key_of, same, index_of, meet, distinct}
+use Rattle.rules.specs.Mesh.{mesh, Kind, hex, quad, segment, point, kinds, dimension, corners, cells_of, topology, mesh_of, hex_edges, hex_faces, quad_edges, by_dimension, places, cell_parts, first_holding, smallest, smallest_table, place_of}
+use Rattle.rules.specs.Split.{corners_at, met, parts, split_by, split}
+use Rattle.rules.specs.Means.{floor_div, floor_mod, mean_of, coordinate, rounded, remainder}
+use Rattle.rules.specs.Averaging.{means, axis, averaged}
 use Rattle.rules.specs.Counts.{sizes, next_sizes, sizes_after, counts_of, counts_in, finished_counts, no_counts}
 use Rattle.rules.specs.SampleMeshes.{wire, bar, cube, sides, tent, mixed}
-use Rattle.rules.specs.SampleClaims.{numbers, lists, wholes, truths, tables, five, seven, spelled_out, flat, Row, row, fact}
+use Rattle.rules.specs.SampleClaims.{numbers, lists, wholes, truths, tables, five, seven, spelled_out, flat, Row, fact}
 
 unfoldable pub part_rows : List Row
 part_rows =

@@ -1,12 +1,12 @@
 -- Rows of the table of samples: each refusal on both sides of its limit, and each order of two neighbouring checks.
-use Rattle.std.specs.Prelude.{true, false, List, [], ◌∷◌, ◌++◌, map, ℕ, replicate, ℤ, pos, negsuc}
+use Rattle.std.specs.Prelude.{true, false, List, [], ◌∷◌, ◌++◌, map, ℕ, replicate, pos, negsuc}
 use Rattle.rules.specs.Lists.{up_from}
-use Rattle.rules.specs.Mesh.{Mesh, mesh, topology}
-use Rattle.rules.specs.Counts.{out_of_range, fewer, counts_of}
-use Rattle.rules.specs.Refusals.{check, partial_entry, count_out_of_range, outside, coordinate_out_of_range, corner_out_of_range, repeated_corner, duplicate_cell, ring, mismatched, mismatched_face, isolated_vertex, too_many_rounds, too_large, table_checks, mesh_checks}
+use Rattle.rules.specs.Mesh.{mesh, topology}
+use Rattle.rules.specs.Counts.{out_of_range, fewer}
+use Rattle.rules.specs.Refusals.{check, partial_entry, count_out_of_range, outside, corner_out_of_range, repeated_corner, duplicate_cell, ring, mismatched, mismatched_face, isolated_vertex, too_many_rounds, too_large, table_checks, mesh_checks}
 use Rattle.rules.specs.EntryPoints.{Lent, short_for_refining}
 use Rattle.rules.specs.SampleMeshes.{tally, lent, line, wire, bar, square, cube, sides, hub, span, low_hub, wide_cube, mixed}
-use Rattle.rules.specs.SampleClaims.{Claim, refused, truths, numbers, lists, five, Row, row, fact}
+use Rattle.rules.specs.SampleClaims.{refused, truths, numbers, lists, Row, row, fact}
 
 unfoldable pub refusal_rows : List Row
 refusal_rows =

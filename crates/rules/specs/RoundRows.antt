@@ -1,9 +1,9 @@
 -- Rows of the table of samples: rounds, cell by cell and coordinate by coordinate; ranks and valences.
-use Rattle.std.specs.Prelude.{true, false, List, [], ◌∷◌, map, replicate, ℤ, pos, negsuc}
+use Rattle.std.specs.Prelude.{true, false, List, [], ◌∷◌, replicate, pos, negsuc}
 use Rattle.rules.specs.Lists.{up_from}
-use Rattle.rules.specs.Mesh.{Mesh, mesh, topology}
+use Rattle.rules.specs.Mesh.{mesh}
 use Rattle.rules.specs.SampleMeshes.{line, wire, bar, square, cube, sides, grid, dots, hub, span, low_hub, wide_cube, mixed}
-use Rattle.rules.specs.SampleClaims.{Claim, vertices, cells, counts, ranks, valences, division, in_range, Row, row}
+use Rattle.rules.specs.SampleClaims.{vertices, cells, counts, ranks, valences, division, in_range, Row, row}
 
 unfoldable pub round_rows : List Row
 round_rows =

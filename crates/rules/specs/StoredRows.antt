@@ -1,13 +1,13 @@
 -- Rows of the table of samples: bit fields, the stored form, reading, writing, the calls on stored meshes, the listing.
-use Rattle.std.specs.Prelude.{true, false, List, [], ◌∷◌, ◌++◌, map, ℕ, ◌+◌, length, take, drop, replicate, ℤ, pos, negsuc}
+use Rattle.std.specs.Prelude.{true, false, List, [], ◌∷◌, ◌++◌, map, ℕ, take, replicate, pos, negsuc}
 use Rattle.rules.specs.Text.{text}
-use Rattle.rules.specs.Mesh.{Mesh, mesh, topology}
-use Rattle.rules.specs.Counts.{counts_of, no_counts}
-use Rattle.rules.specs.Bits.{number, first_bits, field_at, table_at, Field, bits_in, spelled, bytes_for, filling, bytes_of, packed, encode, digits_in, binary_digits, width_of}
-use Rattle.rules.specs.StoredForm.{to_field, of_field, Header, field, table_fields, header_widths, fields_of, header_fields, header_of, layout, stored_form, stored_mesh, header_cut, wrong_length, unknown_form, wrong_width, spare_bits, reading_refusal, reading_answer, reading_output, header_answer, writing_refusal, writing_answer, writing_output}
-use Rattle.rules.specs.Viewer.{fixed_counts, fixed_lent, and_then, signed, stored_refining_refusal, viewer_refusal, viewer_answer, viewer_output, viewer_irregular_count}
-use Rattle.rules.specs.Listing.{decimal_in, decimal, signed_decimal, mesh_line, vertex_line, cell_lines, fields, line as listingLine, listing_refusal, listing}
-use Rattle.rules.specs.SampleMeshes.{tally, every_kind, line, wire, bar, tent, square, cube, dots, mixed, bar_bytes, many_points, full_tables}
+use Rattle.rules.specs.Mesh.{mesh, topology}
+use Rattle.rules.specs.Counts.{no_counts}
+use Rattle.rules.specs.Bits.{number, first_bits, field_at, table_at, bits_in, bytes_for, filling, bytes_of, packed, encode, digits_in, binary_digits, width_of}
+use Rattle.rules.specs.StoredForm.{to_field, of_field, field, fields_of, header_fields, header_of, layout, stored_form, stored_mesh, wrong_width, spare_bits, reading_refusal, reading_answer, reading_output, header_answer, writing_refusal, writing_answer, writing_output}
+use Rattle.rules.specs.Viewer.{fixed_counts, fixed_lent, and_then, signed, stored_refining_refusal, viewer_answer, viewer_output, viewer_irregular_count}
+use Rattle.rules.specs.Listing.{decimal_in, decimal, signed_decimal, mesh_line, vertex_line, cell_lines, listing_refusal, listing}
+use Rattle.rules.specs.SampleMeshes.{tally, every_kind, wire, bar, tent, cube, dots, mixed, bar_bytes, many_points, full_tables}
 use Rattle.rules.specs.SampleClaims.{width, bytes, read_back, prints, answers, unread, numbers, lists, wholes, truths, tables, five, laid_out, answered, counted, Row, row, fact}
 
 unfoldable pub stored_rows : List Row

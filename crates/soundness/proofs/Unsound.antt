@@ -11,7 +11,7 @@ use Rattle.rules.specs.Split.{corners_at, key_at, met}
 use Rattle.rules.specs.Refusals.{ring}
 use Rattle.lists.specs.Membership.{In}
 use Rattle.lists.proofs.Decide.{dec_in, dec_if, dec_key, computed}
-use Rattle.soundness.specs.Sound.{corner, Held, Sound}
+use Rattle.soundness.specs.Sound.{corner, Sound}
 
 abbrev cells : ℕ → List (List ℕ) → List (List ℕ) → List (List ℕ) → List (List ℕ) → Topology
 cells n hs qs ss ps = record { vertex_count = n; hexes = hs; quads = qs; segments = ss; points = ps }

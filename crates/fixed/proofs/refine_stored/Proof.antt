@@ -1,5 +1,5 @@
 -- `fixed::refine_stored` meets its contract: reading, and then refining of what was read. Assumes nothing.
-use mathlib.Core.Path.{◌≡◌, refl}
+use mathlib.Core.Path.{refl}
 use borrow.Author.Rules.{rules}
 use lib.ListN.{replicate}
 use lib.IntN.{pos}

@@ -5,7 +5,7 @@ use native.Mathlib.Omega.{arith}
 use borrow.Author.Rules.{rules}
 use lib.ListN.{length}
 use Rattle.rules.specs.Lists.{keep, up_from}
-use Rattle.rules.specs.Mesh.{Mesh, hex, quad, segment, point, mesh, topology}
+use Rattle.rules.specs.Mesh.{Mesh, hex, quad, segment, mesh, topology}
 use Rattle.rules.specs.EntryPoints.{irregular_count}
 use Rattle.soundness.specs.Accepted.{Accepted}
 use Rattle.soundness.proofs.Checks.{checks_accept, no_repeated_corner}

@@ -1,15 +1,11 @@
 -- `lines::stored_lines` meets its contract. Assumes nothing.
-use mathlib.Core.Path.{◌≡◌, refl, sym, ap, ◌∙◌}
-use native.Mathlib.Omega.{arith}
+use mathlib.Core.Path.{refl}
 use lib.ListN.{replicate}
 use lib.IntN.{pos}
 use borrow.Author.Rules.{rules}
 use Rattle.rules.specs.Mesh.{Mesh, mesh}
-use Rattle.rules.specs.Averaging.{refined}
 use Rattle.rules.specs.Counts.{counts_of}
-use Rattle.rules.specs.StoredForm.{stored_mesh}
-use Rattle.rules.specs.Listing.{listed, mesh_lines}
-use Rattle.fixed.proofs.Finished.{Refining, refusal_is, refining_accepted, finished_front, finished_room}
+use Rattle.fixed.proofs.Finished.{Refining, refining_accepted, finished_front, finished_room}
 use Rattle.lines.proofs.Listed.{listed_refused, listed_accepted, finished_fits}
 use Rattle.lines.proofs.stored_lines.Statement.{statement}
 use Rattle.lines.proofs.stored_lines.Tie as tie

@@ -1,5 +1,5 @@
 -- `plan::finished_counts` meets its contract: the plan's answer, and the working numbers cleared. Assumes nothing.
-use mathlib.Core.Path.{◌≡◌, ap, ◌∙◌}
+use mathlib.Core.Path.{ap, ◌∙◌}
 use Prim.Native.Nat.{ℕ}
 use borrow.Author.Rules.{rules}
 use lib.ListN.{replicate}

@@ -1,5 +1,5 @@
 -- `plan::plan` meets its contract: the refusals one after the other. Assumes nothing.
-use mathlib.Core.Path.{◌≡◌, refl, sym, subst, ◌∙◌}
+use mathlib.Core.Path.{refl, sym, subst, ◌∙◌}
 use Prim.Native.Nat.{◌^◌}
 use borrow.Author.Rules.{rules}
 use Rattle.rules.specs.declared.Sizes.{Sizes}

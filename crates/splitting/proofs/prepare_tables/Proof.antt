@@ -1,7 +1,7 @@
 -- `splitting::prepare_tables` meets its contract: first the words of the edges' table are lent, then the others. Assumes nothing.
 use mathlib.Core.Path.{sym}
 use mathlib.Core.List.{◌++◌}
-use Prim.Native.Nat.{◌+◌, ◌≤◌}
+use Prim.Native.Nat.{◌≤◌}
 use native.Mathlib.Omega.{arith}
 use lib.ListN.{length, take, drop, length-drop, length-append}
 use lib.Seq.{length-take-le}

@@ -1,8 +1,5 @@
 -- `tables::places` meets its contract. Assumes nothing.
-use mathlib.Core.Path.{refl}
-use Prim.Native.Nat.{◌/◌}
 use native.Mathlib.Nat.{div-one}
-use lib.ListN.{length}
 use Rattle.rules.specs.Counts.{counts_in, counts_of}
 use Rattle.tables.proofs.places.Statement.{statement}
 use Rattle.tables.proofs.places.Tie as tie

@@ -1,6 +1,5 @@
 -- `checks::classes::square` meets its contract. Assumes nothing.
 use mathlib.Core.Path.{refl}
-use Prim.Native.Nat.{◌*◌}
 use native.Mathlib.Nat.{mod-lt, mul-le-mul}
 use native.Mathlib.Omega.{arith}
 use Rattle.checks.proofs.classes.square.Statement.{statement}

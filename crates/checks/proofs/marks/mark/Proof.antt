@@ -1,9 +1,6 @@
 -- `checks::marks::mark` meets its contract. Assumes nothing.
-use mathlib.Core.Path.{◌≡◌}
-use mathlib.Core.Logic.{⊎_elim}
-use Prim.Native.Nat.{ℕ, ◌+◌, ◌-◌, ◌<◌}
+use Prim.Native.Nat.{◌-◌, ◌<◌}
 use native.Mathlib.Omega.{arith}
-use borrow.Author.Tests.{ltb-true, ltb-false}
 use lib.ListN.{length, get_or, take}
 use Rattle.checks.specs.Marked.{Marked}
 use Rattle.checks.proofs.Marking.{mark_start, mark_hit, mark_miss, mark_end}

@@ -1,7 +1,6 @@
 -- `checks::pairwise::is_mismatched` meets its contract. Assumes nothing.
 use mathlib.Core.Path.{refl, sym, ap, ◌∙◌}
 use borrow.Author.Rules.{rules}
-use borrow.Author.Tests.{not-true, not-false}
 use Rattle.soundness.specs.Across.{across}
 use Rattle.checks.proofs.Mismatch.{across_take, mismatched_at}
 use Rattle.checks.proofs.pairwise.is_mismatched.Statement.{statement}

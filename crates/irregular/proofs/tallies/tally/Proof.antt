@@ -1,9 +1,7 @@
 -- `irregular::tallies::tally` meets its contract. Assumes nothing.
 use mathlib.Core.Path.{◌≡◌, ap, ◌∙◌}
-use mathlib.Core.Logic.{⊎_elim}
 use Prim.Native.Nat.{ℕ, ◌-◌, ◌+◌, ◌^◌, ◌<◌}
 use native.Mathlib.Omega.{arith}
-use borrow.Author.Tests.{ltb-true, ltb-false, eqb-true, eqb-false}
 use lib.ListN.{length, get_or, take}
 use Rattle.irregular.specs.Tallied.{Tallied}
 use Rattle.irregular.proofs.Counts.{tally_start, tally_hit, tally_miss, tally_fits, tally_end}

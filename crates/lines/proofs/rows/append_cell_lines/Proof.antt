@@ -1,15 +1,13 @@
 -- `lines::rows::append_cell_lines` meets its contract. Assumes nothing.
-use mathlib.Core.Path.{◌≡◌}
 use mathlib.Core.List.{List, [], ◌∷◌, map}
 use Prim.Native.Nat.{ℕ, ◌+◌, ◌-◌, ◌*◌, ◌≤◌, ◌<◌}
 use native.Mathlib.Nat.{div-le_self}
 use native.Mathlib.Omega.{arith}
-use lib.ListN.{length, get_or}
+use lib.ListN.{length}
 use Rattle.rules.specs.Lists.{cut}
 use Rattle.rules.specs.Listing.{decimal, line, cell_lines}
 use Rattle.lists.proofs.Tables.{length_cut}
 use Rattle.checks.proofs.Slices.{entry_within, entry_part}
-use Rattle.lines.specs.Appended.{Appended}
 use Rattle.lines.proofs.Runs.{Printing, print_start, print_room, print_turn, print_end, append_length}
 use Rattle.lines.proofs.rows.append_cell_lines.Statement.{statement}
 use Rattle.lines.proofs.rows.append_cell_lines.Tie as tie

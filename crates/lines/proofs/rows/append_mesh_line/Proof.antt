@@ -1,5 +1,4 @@
 -- `lines::rows::append_mesh_line` meets its contract. Assumes nothing.
-use mathlib.Core.List.{[], ◌∷◌}
 use borrow.Author.Rules.{rules}
 use Rattle.rules.specs.Text.{text}
 use Rattle.rules.specs.Listing.{line, mesh_line}

@@ -5,7 +5,6 @@ use Prim.Native.Nat.{ℕ, ◌/◌}
 use native.Mathlib.Omega.{arith}
 use lib.ListN.{length}
 use borrow.Author.Rules.{rules}
-use Rattle.rules.specs.declared.Counts.{Counts}
 use Rattle.rules.specs.Lists.{concat_map, cut, up_from}
 use Rattle.rules.specs.Mesh.{Mesh, mesh, topology}
 use Rattle.rules.specs.Counts.{counts_of}

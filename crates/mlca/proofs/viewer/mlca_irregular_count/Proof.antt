@@ -1,5 +1,5 @@
 -- `mlca::viewer::mlca_irregular_count` meets its contract: reading, and then the count of what was read. Assumes nothing.
-use mathlib.Core.Path.{◌≡◌, refl, ◌∙◌}
+use mathlib.Core.Path.{refl, ◌∙◌}
 use lib.ListN.{replicate}
 use lib.IntN.{pos}
 use mir.Syntax.{w64}

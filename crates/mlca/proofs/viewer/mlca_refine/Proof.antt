@@ -1,5 +1,5 @@
 -- `mlca::viewer::mlca_refine` meets its contract: refining of a stored mesh, and then writing. Assumes nothing.
-use mathlib.Core.Path.{◌≡◌, refl, ◌∙◌}
+use mathlib.Core.Path.{refl, ◌∙◌}
 use lib.ListN.{replicate}
 use lib.IntN.{pos}
 use mir.Syntax.{w64}

@@ -1,13 +1,11 @@
 -- `mlca::viewer::signed` meets its contract: a number of 32 bits negated fits 64. Assumes nothing.
-use mathlib.Core.Path.{◌≡◌, ◌∙◌, ap}
-use Prim.Native.Nat.{ℕ, ◌<◌, ◌^◌}
+use mathlib.Core.Path.{◌∙◌}
+use Prim.Native.Nat.{◌<◌, ◌^◌}
 use native.Mathlib.Omega.{arith}
 use borrow.Author.Rules.{rules}
 use mir.Syntax.{w64}
 use mir.Facts.{to_z-of_z}
 use mir.ValLaws.{to_z_pos}
-use lib.IntN.{pos}
-use Rattle.rules.specs.Viewer.{signed}
 use Rattle.mlca.proofs.Numbers.{neg_fits, minus, below_zero}
 use Rattle.mlca.proofs.viewer.signed.Statement.{statement}
 use Rattle.mlca.proofs.viewer.signed.Tie as tie

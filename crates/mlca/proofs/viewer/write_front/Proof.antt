@@ -1,6 +1,5 @@
 -- `mlca::viewer::write_front` meets its contract: a count of bytes is at most the buffer's length. Assumes nothing.
 use mathlib.Core.Path.{sym, ◌∙◌}
-use native.Mathlib.Omega.{arith}
 use lib.Seq.{length-take-le}
 use mir.Syntax.{w64}
 use mir.Facts.{to_z-of_z}

@@ -1,7 +1,6 @@
 -- `refine::run::run` meets its contract: the refusals, or the rounds. Assumes nothing.
-use mathlib.Core.Path.{◌≡◌, refl, ap, ◌∙◌}
+use mathlib.Core.Path.{refl, ap, ◌∙◌}
 use borrow.Author.Rules.{rules}
-use lib.ListN.{length}
 use Rattle.rules.specs.Mesh.{Mesh, mesh}
 use Rattle.rules.specs.Counts.{counts_in}
 use Rattle.rules.specs.Refusals.{check}

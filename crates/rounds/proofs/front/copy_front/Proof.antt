@@ -1,6 +1,6 @@
 -- `rounds::front::copy_front` meets its contract: a part of each table is copied. Assumes nothing.
 use borrow.Author.Rules.{rules}
-use Rattle.rules.specs.EntryPoints.{result_tables, front_of}
+use Rattle.rules.specs.EntryPoints.{front_of}
 use Rattle.tables.proofs.Five.{length_part, part_fits}
 use Rattle.rounds.proofs.front.copy_front.Statement.{statement}
 use Rattle.rounds.proofs.front.copy_front.Tie as tie

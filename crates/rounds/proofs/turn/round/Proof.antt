@@ -1,8 +1,7 @@
 -- `rounds::turn::round` meets its contract: the fine cells, and then the means. Assumes nothing.
-use mathlib.Core.Path.{◌≡◌, ◌∙◌}
+use mathlib.Core.Path.{◌∙◌}
 use native.Mathlib.Omega.{arith}
 use borrow.Author.Rules.{rules}
-use Rattle.rules.specs.Mesh.{mesh}
 use Rattle.tables.proofs.Five.{length_part}
 use Rattle.rounds.proofs.OneRound.{few_vertices, fine_small, fine_places, split_ready, split_places, average_ready, round_holds}
 use Rattle.rounds.proofs.turn.round.Statement.{statement}
