@@ -1,9 +1,9 @@
--- `mlca::tables::mlca_millimetres` meets its contract: that of the call, without the cast of each argument. Assumes nothing.
+-- `mlca::over_tables::mlca_millimetres` meets its contract: that of the call, without the cast of each argument. Assumes nothing.
 use borrow.Author.Rules.{rules}
 use mir.Syntax.{w32}
 use mir.ValLaws.{to_z-of_z}
-use Rattle.mlca.proofs.tables.mlca_millimetres.Statement.{statement}
-use Rattle.mlca.proofs.tables.mlca_millimetres.Tie as tie
+use Rattle.mlca.proofs.over_tables.mlca_millimetres.Statement.{statement}
+use Rattle.mlca.proofs.over_tables.mlca_millimetres.Tie as tie
 
 returns : tie.Need-returns
 returns c =
