@@ -81,7 +81,7 @@ pub fn page() -> String {
     let mut text = String::from(concat!(
         "# Sample meshes\n\n",
         "Stored meshes (docs/SPECIFICATION.md, section 8), made by `make_samples` in `tests/kernel`.\n",
-        "Coordinates are in units of 1/1024 mm. The listing program, which `rt check listing` builds, takes one byte with the\n",
+        "Coordinates are in units of 1/1024 mm. The listing program, which `tools/archive` builds, takes one byte with the\n",
         "rounds and then a mesh. In the root: `printf '\\001' | cat - examples/meshes/p1.mlca | target/bin/listing`.\n\n",
         "| File | Bytes | Vertices | Hexes | Quads | Segments | Points | What it is |\n",
         "|---|---|---|---|---|---|---|---|\n",
