@@ -3,7 +3,7 @@
 -- The notation. A definition has its type on one line and its equations on the next; the first equation that fits a call is taken.
 -- `unfoldable`, `abbrev`: a definition that proofs open where they say so, or always. The difference matters to proofs alone.
 -- ℕ: the numbers 0, 1, 2, ..; `zero` is 0 and `suc n` is n + 1; 1_000 is 1000; n - m is 0 where m is greater; / and % round down.
--- ℤ: the whole numbers; `pos n` is n and `negsuc n` is -(n + 1). _+ℤ_ and _*ℤ_ are their sum and product; ltZ and leZ are tests of < and ≤.
+-- ℤ: the whole numbers; `pos n` is n and `negsuc n` is -(n + 1). ◌+ℤ◌ and ◌*ℤ◌ are their sum and product; lt_z and le_z are tests of < and ≤.
 -- Bool: the truth values; `cond t a b` is a where t is true, else b. ltb, leb and eqb are tests of <, ≤ and = on ℕ.
 -- List: [] is empty, x ∷ xs is x in front of xs, ++ joins; length, take n and drop n as their names say, `replicate n x` is x n times, `map f` f of
 -- each; `get_or xs n d` is what stands at place n of xs, counted from 0, and d past its end.

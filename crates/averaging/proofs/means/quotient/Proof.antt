@@ -25,29 +25,18 @@ trailing_lt (suc k) n p h = go (n % 2) refl (λ q. trailing_lt k (n / 2) q (let 
 zeros-lt : (c : lts.Start reads.Pre reads.Post) → count_trailing_zeros 64 c.args.divisor < 64
 zeros-lt c = trailing_lt 64 c.args.divisor c.requires (omega (arith, c.ranges.divisor))
 
-cast-if1 : tie.Need-overflow_cast-zeros
-cast-if1 c = search (rules, zeros-lt c)
-
-shl-if1 : tie.Need-overflow_shl-zeros
-shl-if1 c = zeros-lt c
-
-cast-result : tie.Need-overflow_cast-result
-cast-result c = search (rules, zeros-lt c.before)
-
-shr-result : tie.Need-overflow_shr-result
-shr-result c = zeros-lt c.before
-
-returns : tie.Need-returns-then-divisor-zeros
-returns c =
-    let k = count_trailing_zeros 64 c.args.divisor in
-    ap (λ (d : ℕ). c.args.sum / d) (sym (c.if-divisor-zeros.true ∙ shl_exact 1 k 64 (lit< tt) (omega (arith, zeros-lt c.before)) ∙ one-mul (2 ^ k)))
-
-div-result : tie.Need-nonzero_div-result
-div-result c = search rules
-
-returns-2 : tie.Need-returns
-returns-2 c = search rules
-
+-- The goals are answered by their places, so that nothing here has a name made of the test.
 pub quotient_spec : {M : Type 1} → statement M
 quotient_spec =
-    tie.close (tie.spec cast-if1 shl-if1 cast-result shr-result returns div-result returns-2)
+    tie.close
+    (tie.spec
+    (λ c. search (rules, zeros-lt c))
+    (λ c. zeros-lt c)
+    (λ c. search (rules, zeros-lt c.before))
+    (λ c. zeros-lt c.before)
+    (λ c.
+    let k = count_trailing_zeros 64 c.args.divisor in
+    let e : c.args.divisor ≡ (1 * 2 ^ k) % 2 ^ 64 = cc in
+    ap (λ (d : ℕ). c.args.sum / d) (sym (e ∙ shl_exact 1 k 64 (lit< tt) (omega (arith, zeros-lt c.before)) ∙ one-mul (2 ^ k))))
+    (λ c. search rules)
+    (λ c. search rules))
