@@ -135,10 +135,10 @@ pub child_total : (κ : Kind) (e at : ℕ → ℕ) (numbered : List Key) (cell :
     → ((u : ℕ) → u < corners κ → e (get_or cell u 0) ≡ at u)
     → nat_total (cell_draws numbered (map number (whole κ))) e ≡ weighed (corners κ) (get_or (weight_rows κ) i []) at
 unfolding child_draws weighed
-child_total κ e at numbered cell number i h numbers placed_at_lem =
+child_total κ e at numbered cell number i h numbers placed_at =
     let inside = draws_inside κ i h in
     let most = corners_most κ in
     corners_total e numbered cell number (smallest κ i) (whole κ) numbers
-    ∙ total_same (corners κ) (λ (q : ℕ). e (get_or cell q 0)) at (child_draws κ i) inside placed_at_lem
+    ∙ total_same (corners κ) (λ (q : ℕ). e (get_or cell q 0)) at (child_draws κ i) inside placed_at
     ∙ collected (corners κ) at (child_draws κ i) inside
     ∙ sum_to_same (corners κ) (λ (u : ℕ). weight_at (child_draws κ i) u * at u) (λ (u : ℕ). get_or (get_or (weight_rows κ) i []) u 0 * at u) (λ u l. ap (λ (w : ℕ). w * at u) (sym (weights_at κ i u (whole_below κ i h) (omega arith))))

@@ -43,8 +43,8 @@ pub fn vertex_at(table: &[u32], p: usize) -> usize
 // The biased coordinates of the n corners of cell number c, three for each corner.
 pub fn gather(corners: &[u32], n: usize, c: usize, xs: &[i32]) -> [u64; 24]
     requires { Coarse n (c + 1) corners.now xs.now }
-    ensures by_index { (u a : ℕ) → u < n → a < 3 → gathered_at result a u ≡ corner_coordinate corners.now (n * c) xs.now a u }
-    ensures by_index_2 { (q : ℕ) → get_or result q 0 < 2 ^ 30 }
+    ensures gathered { (u a : ℕ) → u < n → a < 3 → gathered_at result a u ≡ corner_coordinate corners.now (n * c) xs.now a u }
+    ensures below { (q : ℕ) → get_or result q 0 < 2 ^ 30 }
 {
     let at = n * c;
     let mut gathered: [u64; 24] = [0; 24];
@@ -70,8 +70,8 @@ fn wide(x: u8) -> u64
 
 // The weighed sum of n corners on one axis.
 fn weigh(row: &[u8; 8], n: usize, gathered: &[u64; 24], axis: usize) -> u64
-    requires n_bound { (n ≤ 8) × (axis < 3) }
-    requires by_index { (q : ℕ) → get_or gathered.now q 0 < 2 ^ 30 }
+    requires few_corners { (n ≤ 8) × (axis < 3) }
+    requires below { (q : ℕ) → get_or gathered.now q 0 < 2 ^ 30 }
     ensures { (result ≡ weighed n row.now (gathered_at gathered.now axis)) × (result < 2 ^ 41) }
 {
     let mut total: u64 = 0;
@@ -86,8 +86,8 @@ fn weigh(row: &[u8; 8], n: usize, gathered: &[u64; 24], axis: usize) -> u64
 
 // The split positions of all corners of a child of a cell with n corners, summed, in eighths, on each axis.
 pub fn child_sums(row: &[u8; 8], n: usize, gathered: &[u64; 24]) -> [u64; 3]
-    requires n_bound { n ≤ 8 }
-    requires by_index { (q : ℕ) → get_or gathered.now q 0 < 2 ^ 30 }
+    requires few_corners { n ≤ 8 }
+    requires below { (q : ℕ) → get_or gathered.now q 0 < 2 ^ 30 }
     ensures { (a : ℕ) → a < 3 → (get_or result a 0 ≡ weighed n row.now (gathered_at gathered.now a)) × (get_or result a 0 < 2 ^ 41) }
 {
     let x = weigh(row, n, gathered, 0);

@@ -33,8 +33,8 @@ pub fn average(
     out: &mut [i32],
 )
     requires { Ready (mesh xs.now hexes.now quads.now segments.now points.now) (mesh xs.now fine_hexes.now fine_quads.now fine_segments.now fine_points.now) count (length words.old) (length longs.old) (length out.old) }
-    ensures words_len_unchanged { (length words.new ≡ length words.old) × (length longs.new ≡ length longs.old) }
-    ensures out_after { let m = mesh xs.now hexes.now quads.now segments.now points.now in
+    ensures lengths_kept { (length words.new ≡ length words.old) × (length longs.new ≡ length longs.old) }
+    ensures output { let m = mesh xs.now hexes.now quads.now segments.now points.now in
         out.new ≡ overwritten out.old (averaged (means (topology m)) m.vertices) }
 {
     tallies::reset(count, words, longs);

@@ -51,10 +51,10 @@ fn mean_of(sum: u64, divisor: u64) -> i32
 // The means of one vertex.
 fn finish_at(vertex: usize, words: &[u32], longs: &[u64], out: &mut [i32])
     requires vertex_in_bounds { (2 * vertex + 1 < length words.now) × (3 * vertex + 2 < length longs.now) × (3 * vertex + 2 < length out.old) }
-    requires by_index { (a : ℕ) → a < 3 → Complete (tally_at words.now longs.now a vertex) }
-    ensures out_len_unchanged { length out.new ≡ length out.old }
-    ensures by_index_2 { (a : ℕ) → a < 3 → MeanOf (tally_at words.now longs.now a vertex) (get_or out.new (3 * vertex + a) (pos 0)) }
-    ensures by_index_3 { (a f : ℕ) → a < 3 → (f ≡ vertex → ⊥) → get_or out.new (3 * f + a) (pos 0) ≡ get_or out.old (3 * f + a) (pos 0) }
+    requires complete { (a : ℕ) → a < 3 → Complete (tally_at words.now longs.now a vertex) }
+    ensures length_kept { length out.new ≡ length out.old }
+    ensures means { (a : ℕ) → a < 3 → MeanOf (tally_at words.now longs.now a vertex) (get_or out.new (3 * vertex + a) (pos 0)) }
+    ensures others_kept { (a f : ℕ) → a < 3 → (f ≡ vertex → ⊥) → get_or out.new (3 * f + a) (pos 0) ≡ get_or out.old (3 * f + a) (pos 0) }
 {
     let divisor = divisor_at(words, vertex);
     out[3 * vertex] = mean_of(longs[3 * vertex], divisor);
@@ -65,10 +65,10 @@ fn finish_at(vertex: usize, words: &[u32], longs: &[u64], out: &mut [i32])
 // The means of the first n vertices.
 pub fn finish(n: usize, words: &[u32], longs: &[u64], out: &mut [i32])
     requires n_in_bounds { (2 * n ≤ length words.now) × (3 * n ≤ length longs.now) × (3 * n ≤ length out.old) }
-    requires by_index { (a f : ℕ) → a < 3 → f < n → Complete (tally_at words.now longs.now a f) }
-    ensures out_len_unchanged { length out.new ≡ length out.old }
-    ensures by_index_2 { (a f : ℕ) → a < 3 → f < n → MeanOf (tally_at words.now longs.now a f) (get_or out.new (3 * f + a) (pos 0)) }
-    ensures by_index_3 { (a f : ℕ) → a < 3 → n ≤ f → get_or out.new (3 * f + a) (pos 0) ≡ get_or out.old (3 * f + a) (pos 0) }
+    requires complete { (a f : ℕ) → a < 3 → f < n → Complete (tally_at words.now longs.now a f) }
+    ensures length_kept { length out.new ≡ length out.old }
+    ensures means { (a f : ℕ) → a < 3 → f < n → MeanOf (tally_at words.now longs.now a f) (get_or out.new (3 * f + a) (pos 0)) }
+    ensures others_kept { (a f : ℕ) → a < 3 → n ≤ f → get_or out.new (3 * f + a) (pos 0) ≡ get_or out.old (3 * f + a) (pos 0) }
 {
     let mut f = 0;
     while f < n {

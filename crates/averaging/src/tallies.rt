@@ -39,8 +39,8 @@ pub fn reset(n: usize, words: &mut [u32], longs: &mut [u64])
 // A cell of dimension d counts for one of its corners.
 fn count_at(vertex: usize, d: u32, sums: [u64; 3], words: &mut [u32], longs: &mut [u64])
     requires vertex_in_bounds { (2 * vertex + 1 < length words.old) × (3 * vertex + 2 < length longs.old) }
-    requires by_index { (a : ℕ) → a < 3 → Room 1 (tally_at words.old longs.old a vertex) }
-    requires by_index_2 { (a : ℕ) → a < 3 → get_or sums a 0 < 2 ^ 41 }
+    requires room { (a : ℕ) → a < 3 → Room 1 (tally_at words.old longs.old a vertex) }
+    requires sums_below { (a : ℕ) → a < 3 → get_or sums a 0 < 2 ^ 41 }
     ensures { Tallied 1 (λ (a : ℕ). corner_step d (get_or sums a 0) vertex) words.old longs.old words.new longs.new }
 {
     if d <= words[2 * vertex] {
@@ -63,7 +63,7 @@ fn count_child(
     longs: &mut [u64],
 )
     requires fine { Fine at n n fine.now words.old longs.old }
-    requires by_index { (a : ℕ) → a < 3 → get_or sums a 0 < 2 ^ 41 }
+    requires sums_below { (a : ℕ) → a < 3 → get_or sums a 0 < 2 ^ 41 }
     ensures { Tallied n (λ (a : ℕ). child_step n fine.now at d (get_or sums a 0)) words.old longs.old words.new longs.new }
 {
     let mut j = 0;
@@ -85,8 +85,8 @@ fn count_cell(
     words: &mut [u32],
     longs: &mut [u64],
 )
-    requires n_bound { (n ≤ 8) × (n ≤ length weights.now) × Fine base (n * n) (n * n) fine.now words.old longs.old }
-    requires by_index { (q : ℕ) → get_or gathered.now q 0 < 2 ^ 30 }
+    requires few_corners { (n ≤ 8) × (n ≤ length weights.now) × Fine base (n * n) (n * n) fine.now words.old longs.old }
+    requires below { (q : ℕ) → get_or gathered.now q 0 < 2 ^ 30 }
     ensures { Tallied (n * n) (λ (a : ℕ). cell_step n weights.now (gathered_at gathered.now a) fine.now base d) words.old longs.old words.new longs.new }
 {
     let mut i = 0;

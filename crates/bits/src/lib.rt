@@ -159,8 +159,8 @@ pub fn get_table(s: &[u8], at: usize, w: u32, t: &mut [u32], n: usize)
 
 // Writes the entries of t, w bits each, from bit `at` on. Answers the bit behind the last.
 pub fn put_table(d: &mut [u8], at: usize, w: u32, t: &[u32]) -> usize
-    requires w_nonzero { (0 < w) × (w ≤ 32) × (at + w * length t.now ≤ 8 * length d.old) × (at + w * length t.now ≤ 2 ^ 60) }
-    requires by_index { (i : ℕ) → get_or t.now i 0 < 2 ^ w }
+    requires room { (0 < w) × (w ≤ 32) × (at + w * length t.now ≤ 8 * length d.old) × (at + w * length t.now ≤ 2 ^ 60) }
+    requires entries_fit { (i : ℕ) → get_or t.now i 0 < 2 ^ w }
     ensures { (result ≡ at + w * length t.now) × (d.new ≡ put_all d.old at (table_fields w t.now)) }
 {
     if t.len() == 0 {
@@ -230,8 +230,8 @@ pub fn get_coordinates(s: &[u8], at: usize, t: &mut [i32], n: usize)
 
 // Writes the coordinates of t from bit `at` on. Answers the bit behind the last.
 pub fn put_coordinates(d: &mut [u8], at: usize, t: &[i32]) -> usize
-    requires t_bound { (at + 30 * length t.now ≤ 8 * length d.old) × (at + 30 * length t.now ≤ 2 ^ 60) }
-    requires by_index { (i : ℕ) → outside (get_or t.now i (pos 0)) ≡ false }
+    requires room { (at + 30 * length t.now ≤ 8 * length d.old) × (at + 30 * length t.now ≤ 2 ^ 60) }
+    requires entries_in_range { (i : ℕ) → outside (get_or t.now i (pos 0)) ≡ false }
     ensures { (result ≡ at + 30 * length t.now) × (d.new ≡ put_all d.old at (table_fields 30 (map to_field t.now))) }
 {
     if t.len() == 0 {

@@ -19,8 +19,8 @@ pub enum Faces {
 
 // Whether two cells of a table have one corner set; a cell has k corners.
 pub fn has_duplicate(words: &mut [u32], k: usize, cells: &[u32]) -> bool
-    requires k_nonzero { (0 < k) × (k ≤ 8) }
-    requires cells_value { any (repeats eqb) (cut k cells.now) ≡ false }
+    requires k_in_range { (0 < k) × (k ≤ 8) }
+    requires no_repeated_corner { any (repeats eqb) (cut k cells.now) ≡ false }
     ensures { result ≡ repeats same (map key_of (cut k cells.now)) }
 {
     let mut key = [0u32; 8];

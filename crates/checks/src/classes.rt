@@ -165,7 +165,7 @@ fn sweep_all(
 ) -> Verdict
     requires w_nonzero { 0 < length w.old }
     requires size { Size of (length key.old) }
-    requires classes_nonzero { (0 < classes) × (classes ≤ 1024) }
+    requires classes_in_range { (0 < classes) × (classes ≤ 1024) }
     ensures { Found of (walked of (length key.old) hexes.now quads.now segments.now) result }
 {
     let mut n = 0;

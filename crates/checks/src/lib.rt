@@ -52,8 +52,8 @@ pub struct Checked {
 
 // Whether two cells of a table have one corner set; the parts are the cells themselves.
 fn has_duplicate(words: &mut [u32], of: Parts, cells: &[u32]) -> bool
-    requires of_value { part_corners of ≡ cell_corners of }
-    requires cells_value { any (repeats eqb) (cut (cell_corners of) cells.now) ≡ false }
+    requires whole_cells { part_corners of ≡ cell_corners of }
+    requires no_repeated_corner { any (repeats eqb) (cut (cell_corners of) cells.now) ≡ false }
     ensures { result ≡ repeats same (map key_of (cut (cell_corners of) cells.now)) }
 {
     let k = numbering::parts::corners_of(of);
@@ -94,7 +94,7 @@ fn has_isolated_vertex(
     points: &[u32],
 ) -> bool
     requires words_nonzero { 0 < length words.old }
-    requires points_value { partial_entry (mesh xs.now hexes.now quads.now segments.now points.now) ≡ false }
+    requires whole_tables { partial_entry (mesh xs.now hexes.now quads.now segments.now points.now) ≡ false }
     ensures { result ≡ isolated_vertex (topology
         (mesh xs.now hexes.now quads.now segments.now points.now)) }
 {
@@ -119,7 +119,7 @@ fn check_cells_with(
     points: &[u32],
 ) -> Checked
     requires words_nonzero { 0 < length words.old }
-    requires points_value { table_checks (mesh xs.now hexes.now quads.now segments.now points.now) 0 ≡ 0 }
+    requires tables_pass { table_checks (mesh xs.now hexes.now quads.now segments.now points.now) 0 ≡ 0 }
     ensures { MeshChecked (mesh xs.now hexes.now quads.now segments.now points.now) result }
 {
     if cells::has_repeated_corner(xs, hexes, quads, segments, points) {
@@ -200,8 +200,8 @@ fn edge_count_with(words: &mut [u32], hexes: &[u32], quads: &[u32], segments: &[
 // How many edges there are; an array of its own serves as above. Segments by themselves are edges, each its own: no two have one corner
 // set.
 fn edge_count(words: &mut [u32], hexes: &[u32], quads: &[u32], segments: &[u32]) -> usize
-    requires segments_value { repeated_corner (topology (mesh [] hexes.now quads.now segments.now [])) ≡ false }
-    requires segments_value_2 { repeats same (map key_of (cut 2 segments.now)) ≡ false }
+    requires no_repeated_corner { repeated_corner (topology (mesh [] hexes.now quads.now segments.now [])) ≡ false }
+    requires no_duplicate_segment { repeats same (map key_of (cut 2 segments.now)) ≡ false }
     ensures { result ≡ count_in 1 hexes.now quads.now segments.now }
 {
     if hexes.len() == 0 && quads.len() == 0 {
@@ -225,8 +225,8 @@ pub fn mesh_sizes(
     face_count: usize,
     words: &mut [u32],
 ) -> Sizes
-    requires points_value { repeated_corner (topology (mesh xs.now hexes.now quads.now segments.now points.now)) ≡ false }
-    requires points_value_2 { duplicate_cell (topology (mesh xs.now hexes.now quads.now segments.now points.now)) ≡ false }
+    requires no_repeated_corner { repeated_corner (topology (mesh xs.now hexes.now quads.now segments.now points.now)) ≡ false }
+    requires no_duplicate_cell { duplicate_cell (topology (mesh xs.now hexes.now quads.now segments.now points.now)) ≡ false }
     requires face_count_value { face_count ≡ length (faces (topology (mesh xs.now hexes.now quads.now segments.now points.now))) }
     ensures { result ≡ sizes (topology (mesh xs.now hexes.now quads.now segments.now points.now)) }
 {

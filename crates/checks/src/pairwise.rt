@@ -9,8 +9,8 @@ use crate::{cells, faces, parts};
 
 // Whether two cells have one corner set. Neither names a corner twice.
 pub fn same_corners(a: &[u32], b: &[u32]) -> bool
-    requires a_len { length a.now ≡ length b.now }
-    requires a_value { (repeats eqb a.now ≡ false) × (repeats eqb b.now ≡ false) }
+    requires equally_long { length a.now ≡ length b.now }
+    requires no_repeats { (repeats eqb a.now ≡ false) × (repeats eqb b.now ≡ false) }
     ensures { result ≡ same (key_of a.now) (key_of b.now) }
 {
     let mut i = 0;
@@ -25,7 +25,7 @@ pub fn same_corners(a: &[u32], b: &[u32]) -> bool
 
 // Whether the cells c and d of a table have one corner set; a cell has k corners.
 fn same_cells(k: usize, table: &[u32], c: usize, d: usize) -> bool
-    requires table_value { any (repeats eqb) (cut k table.now) ≡ false }
+    requires no_repeated_corner { any (repeats eqb) (cut k table.now) ≡ false }
     requires c_in_bounds { (c < length (cut k table.now)) × (d < length (cut k table.now)) }
     ensures { result ≡ same (key_of (get_or (cut k table.now) c [])) (key_of (get_or (cut k table.now) d [])) }
 {
@@ -39,7 +39,7 @@ fn same_cells(k: usize, table: &[u32], c: usize, d: usize) -> bool
 // Whether a cell behind cell c has its corner set.
 fn stands_again(k: usize, table: &[u32], c: usize) -> bool
     requires k_nonzero { 0 < k }
-    requires table_value { any (repeats eqb) (cut k table.now) ≡ false }
+    requires no_repeated_corner { any (repeats eqb) (cut k table.now) ≡ false }
     requires c_in_bounds { c < length (cut k table.now) }
     ensures { result ≡ any (same (key_of (get_or (cut k table.now) c []))) (drop (c + 1) (map key_of (cut k table.now))) }
 {
@@ -57,7 +57,7 @@ fn stands_again(k: usize, table: &[u32], c: usize) -> bool
 // Whether two cells of a table have one corner set.
 pub fn has_duplicate(k: usize, table: &[u32]) -> bool
     requires k_nonzero { 0 < k }
-    requires table_value { any (repeats eqb) (cut k table.now) ≡ false }
+    requires no_repeated_corner { any (repeats eqb) (cut k table.now) ≡ false }
     ensures { result ≡ repeats same (map key_of (cut k table.now)) }
 {
     let n = table.len() / k;
@@ -73,8 +73,8 @@ pub fn has_duplicate(k: usize, table: &[u32]) -> bool
 
 // Whether the parts i and j of dimension d have one corner set.
 fn same_parts(d: usize, hexes: &[u32], quads: &[u32], segments: &[u32], i: usize, j: usize) -> bool
-    requires d_nonzero { (0 < d) × (d < 3) }
-    requires segments_value { repeated_corner (topology (mesh [] hexes.now quads.now segments.now [])) ≡ false }
+    requires d_in_range { (0 < d) × (d < 3) }
+    requires no_repeated_corner { repeated_corner (topology (mesh [] hexes.now quads.now segments.now [])) ≡ false }
     requires i_in_bounds { (i < length (met_in d hexes.now quads.now segments.now))
         × (j < length (met_in d hexes.now quads.now segments.now)) }
     ensures { let parts = met_in d hexes.now quads.now segments.now in
@@ -88,8 +88,8 @@ fn same_parts(d: usize, hexes: &[u32], quads: &[u32], segments: &[u32], i: usize
 
 // Whether part i was met before.
 fn is_met_before(d: usize, hexes: &[u32], quads: &[u32], segments: &[u32], i: usize) -> bool
-    requires d_nonzero { (0 < d) × (d < 3) }
-    requires segments_value { repeated_corner (topology (mesh [] hexes.now quads.now segments.now [])) ≡ false }
+    requires d_in_range { (0 < d) × (d < 3) }
+    requires no_repeated_corner { repeated_corner (topology (mesh [] hexes.now quads.now segments.now [])) ≡ false }
     requires i_in_bounds { i < length (met_in d hexes.now quads.now segments.now) }
     ensures { let keys = map key_of (met_in d hexes.now quads.now segments.now) in
         result ≡ any (same (get_or keys i [])) (take i keys) }
@@ -106,8 +106,8 @@ fn is_met_before(d: usize, hexes: &[u32], quads: &[u32], segments: &[u32], i: us
 
 // How many edges (d = 1) or faces (d = 2) there are.
 pub fn count_distinct(d: usize, hexes: &[u32], quads: &[u32], segments: &[u32]) -> usize
-    requires d_nonzero { (0 < d) × (d < 3) }
-    requires segments_value { repeated_corner (topology (mesh [] hexes.now quads.now segments.now [])) ≡ false }
+    requires d_in_range { (0 < d) × (d < 3) }
+    requires no_repeated_corner { repeated_corner (topology (mesh [] hexes.now quads.now segments.now [])) ≡ false }
     ensures { result ≡ count_in d hexes.now quads.now segments.now }
 {
     let n = parts::part_count(d, hexes, quads, segments);
@@ -124,7 +124,7 @@ pub fn count_distinct(d: usize, hexes: &[u32], quads: &[u32], segments: &[u32]) 
 
 // Whether the faces i and j have one corner set and other neighbours in going round.
 fn is_mismatched(hexes: &[u32], quads: &[u32], segments: &[u32], i: usize, j: usize) -> bool
-    requires segments_value { repeated_corner (topology (mesh [] hexes.now quads.now segments.now [])) ≡ false }
+    requires no_repeated_corner { repeated_corner (topology (mesh [] hexes.now quads.now segments.now [])) ≡ false }
     requires i_in_bounds { (i < length (met_in 2 hexes.now quads.now segments.now))
         × (j < length (met_in 2 hexes.now quads.now segments.now)) }
     ensures { let faces = met_in 2 hexes.now quads.now segments.now in
@@ -140,7 +140,7 @@ fn is_mismatched(hexes: &[u32], quads: &[u32], segments: &[u32], i: usize, j: us
 
 // Whether some face does not match face i.
 fn has_mismatch(hexes: &[u32], quads: &[u32], segments: &[u32], i: usize) -> bool
-    requires segments_value { repeated_corner (topology (mesh [] hexes.now quads.now segments.now [])) ≡ false }
+    requires no_repeated_corner { repeated_corner (topology (mesh [] hexes.now quads.now segments.now [])) ≡ false }
     requires i_in_bounds { i < length (met_in 2 hexes.now quads.now segments.now) }
     ensures { let faces = met_in 2 hexes.now quads.now segments.now in
         result ≡ any (mismatched (get_or faces i [])) faces }

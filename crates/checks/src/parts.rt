@@ -23,7 +23,7 @@ fn quad_parts(d: usize) -> usize
 
 // The place of corner j of part p of a hex.
 fn hex_place(d: usize, p: usize, j: usize) -> usize
-    requires d_nonzero { (0 < d) × (d < 3) }
+    requires d_in_range { (0 < d) × (d < 3) }
     requires p_in_bounds { (p < length (places hex d)) × (j < 2 * d) }
     ensures { result ≡ place_of (places hex d) p j }
 {
@@ -36,7 +36,7 @@ fn hex_place(d: usize, p: usize, j: usize) -> usize
 
 // The place of corner j of part p of a quad.
 fn quad_place(d: usize, p: usize, j: usize) -> usize
-    requires d_nonzero { (0 < d) × (d < 3) }
+    requires d_in_range { (0 < d) × (d < 3) }
     requires p_in_bounds { (p < length (places quad d)) × (j < 2 * d) }
     ensures { result ≡ place_of (places quad d) p j }
 {
@@ -69,7 +69,7 @@ fn in_segments(d: usize, segments: &[u32]) -> usize
 
 // Corner j of part number i of the hexes.
 fn hex_corner(d: usize, hexes: &[u32], i: usize, j: usize) -> u32
-    requires d_nonzero { (0 < d) × (d < 3) }
+    requires d_in_range { (0 < d) × (d < 3) }
     requires i_in_bounds { (i < length (parts_of hex d hexes.now)) × (j < 2 * d) }
     ensures { result ≡ get_or (get_or (parts_of hex d hexes.now) i []) j 0 }
 {
@@ -80,7 +80,7 @@ fn hex_corner(d: usize, hexes: &[u32], i: usize, j: usize) -> u32
 
 // Corner j of part number i of the quads.
 fn quad_corner(d: usize, quads: &[u32], i: usize, j: usize) -> u32
-    requires d_nonzero { (0 < d) × (d < 3) }
+    requires d_in_range { (0 < d) × (d < 3) }
     requires i_in_bounds { (i < length (parts_of quad d quads.now)) × (j < 2 * d) }
     ensures { result ≡ get_or (get_or (parts_of quad d quads.now) i []) j 0 }
 {
@@ -91,7 +91,7 @@ fn quad_corner(d: usize, quads: &[u32], i: usize, j: usize) -> u32
 
 // Corner j of part number i of the segments: only edges.
 fn segment_corner(d: usize, segments: &[u32], i: usize, j: usize) -> u32
-    requires d_nonzero { (0 < d) × (d < 3) }
+    requires d_in_range { (0 < d) × (d < 3) }
     requires i_in_bounds { (i < length (parts_of segment d segments.now)) × (j < 2 * d) }
     ensures { result ≡ get_or (get_or (parts_of segment d segments.now) i []) j 0 }
 {
@@ -108,7 +108,7 @@ pub fn part_corner(
     i: usize,
     j: usize,
 ) -> u32
-    requires d_nonzero { (0 < d) × (d < 3) }
+    requires d_in_range { (0 < d) × (d < 3) }
     requires i_in_bounds { (i < length (met_in d hexes.now quads.now segments.now)) × (j < 2 * d) }
     ensures { result ≡ get_or (get_or (met_in d hexes.now quads.now segments.now) i []) j 0 }
 {
@@ -126,7 +126,7 @@ pub fn part_corner(
 
 // The corners of part number i: an edge has 2, a face 4.
 pub fn part_at(d: usize, hexes: &[u32], quads: &[u32], segments: &[u32], i: usize) -> [u32; 4]
-    requires d_nonzero { (0 < d) × (d < 3) }
+    requires d_in_range { (0 < d) × (d < 3) }
     requires i_in_bounds { i < length (met_in d hexes.now quads.now segments.now) }
     ensures { take (2 * d) result ≡ get_or (met_in d hexes.now quads.now segments.now) i [] }
 {

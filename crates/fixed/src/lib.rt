@@ -31,9 +31,9 @@ fn refine_mesh(
     op: &mut [u32],
 ) -> CountsAnswer
     requires { counts_of (mesh ox.old oh.old oq.old os.old op.old) ≡ fixed_counts }
-    ensures result_value { let m = mesh xs.now hs.now qs.now ss.now ps.now in
+    ensures answer { let m = mesh xs.now hs.now qs.now ss.now ps.now in
         result ≡ counts_answer (refining_refusal m rounds fixed_lent) (finished_counts rounds (topology m)) }
-    ensures op_after { let m = mesh xs.now hs.now qs.now ss.now ps.now in
+    ensures output { let m = mesh xs.now hs.now qs.now ss.now ps.now in
         let old = mesh ox.old oh.old oq.old os.old op.old in
         mesh ox.new oh.new oq.new os.new op.new ≡ result_tables (refining_refusal m rounds fixed_lent) old (refined rounds m) }
 {
@@ -66,10 +66,10 @@ fn refine_front(
     op: &mut [u32],
 ) -> CountsAnswer
     requires room { Room c (mesh xs.now hs.now qs.now ss.now ps.now) }
-    requires op_value { counts_of (mesh ox.old oh.old oq.old os.old op.old) ≡ fixed_counts }
-    ensures result_value { let m = front c (mesh xs.now hs.now qs.now ss.now ps.now) in
+    requires fixed_tables { counts_of (mesh ox.old oh.old oq.old os.old op.old) ≡ fixed_counts }
+    ensures answer { let m = front c (mesh xs.now hs.now qs.now ss.now ps.now) in
         result ≡ counts_answer (refining_refusal m rounds fixed_lent) (finished_counts rounds (topology m)) }
-    ensures op_after { let m = front c (mesh xs.now hs.now qs.now ss.now ps.now) in
+    ensures output { let m = front c (mesh xs.now hs.now qs.now ss.now ps.now) in
         let old = mesh ox.old oh.old oq.old os.old op.old in
         mesh ox.new oh.new oq.new os.new op.new ≡ result_tables (refining_refusal m rounds fixed_lent) old (refined rounds m) }
 {
@@ -104,8 +104,8 @@ pub fn refine_stored(
     op: &mut [u32],
 ) -> CountsAnswer
     requires { counts_of (mesh ox.old oh.old oq.old os.old op.old) ≡ fixed_counts }
-    ensures result_value { let s = bytes.now in result ≡ counts_answer (stored_refining_refusal s rounds) (finished_counts rounds (topology (stored_mesh s))) }
-    ensures op_after { let s = bytes.now in
+    ensures answer { let s = bytes.now in result ≡ counts_answer (stored_refining_refusal s rounds) (finished_counts rounds (topology (stored_mesh s))) }
+    ensures output { let s = bytes.now in
         let old = mesh ox.old oh.old oq.old os.old op.old in
         mesh ox.new oh.new oq.new os.new op.new ≡ result_tables (stored_refining_refusal s rounds) old (refined rounds (stored_mesh s)) }
 {

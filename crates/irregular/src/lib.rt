@@ -39,8 +39,8 @@ fn count(
 
 // An answer; the lent numbers are cleared, whichever it is.
 fn answer(words: &mut [u32], refusal: u32, count: u64) -> CountAnswer
-    ensures refusal_value { (result.refusal ≡ refusal) × (result.count ≡ count) }
-    ensures words_after { words.new ≡ cleared words.old }
+    ensures answer { (result.refusal ≡ refusal) × (result.count ≡ count) }
+    ensures words { words.new ≡ cleared words.old }
 {
     memory::clear_u32(words);
     CountAnswer { refusal, count }
@@ -55,8 +55,8 @@ pub fn irregular_count(
     points: &[u32],
     words: &mut [u32],
 ) -> CountAnswer
-    ensures value { result ≡ irregular_answer (mesh xs.now hexes.now quads.now segments.now points.now) }
-    ensures words_after { words.new ≡ cleared words.old }
+    ensures answer { result ≡ irregular_answer (mesh xs.now hexes.now quads.now segments.now points.now) }
+    ensures words { words.new ≡ cleared words.old }
 {
     let checked = checks::check_mesh(xs, hexes, quads, segments, points, words);
     let refusal = checked.refusal;

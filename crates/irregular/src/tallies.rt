@@ -11,7 +11,7 @@ use checks::marks::window;
 // Counts each corner of a table whose vertex is in the window and has the rank.
 fn tally(w: &mut [u32], first: usize, n: usize, rank: u32, table: &[u32])
     requires n_in_bounds { 2 * n ≤ length w.old }
-    requires by_index { (v : ℕ) → v < n → get_or w.old (n + v) 0 + length table.now < 2 ^ 32 }
+    requires counts_fit { (v : ℕ) → v < n → get_or w.old (n + v) 0 + length table.now < 2 ^ 32 }
     ensures { Tallied first n rank table.now w.old w.new }
 {
     let mut i = 0;
@@ -36,8 +36,8 @@ fn tally_all(
     points: &[u32],
 )
     requires n_in_bounds { 2 * n ≤ length w.old }
-    requires points_len_bound { length hexes.now + (length quads.now + (length segments.now + length points.now)) < 2 ^ 32 }
-    requires by_index { (v : ℕ) → v < n → get_or w.old (n + v) 0 ≡ 0 }
+    requires few_corners { length hexes.now + (length quads.now + (length segments.now + length points.now)) < 2 ^ 32 }
+    requires counts_zero { (v : ℕ) → v < n → get_or w.old (n + v) 0 ≡ 0 }
     ensures { Counted first n hexes.now quads.now segments.now points.now w.old w.new }
 {
     tally(w, first, n, 0, hexes);
@@ -72,7 +72,7 @@ fn regular(rank: u32) -> u32
 // How many of the n vertices of a window have another valence than a regular one.
 fn count_unusual(w: &[u32], n: usize) -> u64
     requires n_in_bounds { 2 * n ≤ length w.now }
-    requires by_index { (v : ℕ) → v < n → get_or w.now v 0 < 4 }
+    requires ranks_below { (v : ℕ) → v < n → get_or w.now v 0 < 4 }
     ensures { result ≡ length (keep (unusual n w.now) (up_from 0 n)) }
 {
     let mut count = 0;
@@ -98,7 +98,7 @@ fn count_in_window(
     points: &[u32],
 ) -> u64
     requires n_in_bounds { 2 * n ≤ length w.old }
-    requires points_len_bound { length hexes.now + (length quads.now + (length segments.now + length points.now)) < 2 ^ 32 }
+    requires few_corners { length hexes.now + (length quads.now + (length segments.now + length points.now)) < 2 ^ 32 }
     ensures { result ≡ length (keep (irregular_in hexes.now quads.now segments.now points.now)
         (up_from first n)) }
 {
@@ -118,7 +118,7 @@ pub fn count(
     points: &[u32],
 ) -> u64
     requires in_bounds { 2 ≤ length w.old }
-    requires points_len_bound { length hexes.now + (length quads.now + (length segments.now + length points.now)) < 2 ^ 32 }
+    requires few_corners { length hexes.now + (length quads.now + (length segments.now + length points.now)) < 2 ^ 32 }
     ensures { result ≡ length (keep (irregular_in hexes.now quads.now segments.now points.now)
         (up_from 0 n)) }
 {

@@ -105,7 +105,7 @@ fn append_vertex_line(
     at: usize,
 ) -> usize
     requires v_in_bounds { v < length xs.now / 3 }
-    requires fact { let m = mesh xs.now hexes.now quads.now segments.now points.now in Room out.old at (vertex_line m (topology m) v) }
+    requires room { let m = mesh xs.now hexes.now quads.now segments.now points.now in Room out.old at (vertex_line m (topology m) v) }
     ensures { let m = mesh xs.now hexes.now quads.now segments.now points.now in Appended out.old out.new at result (vertex_line m (topology m) v) }
 {
     let i = 3 * (v as usize);
@@ -124,7 +124,7 @@ fn append_vertex_lines(
     at: usize,
 ) -> usize
     requires xs_len_bound { length xs.now ≤ 3_000 }
-    requires fact { let m = mesh xs.now hexes.now quads.now segments.now points.now in Room out.old at (concat_map (vertex_line m (topology m)) (up_from 0 (length xs.now / 3))) }
+    requires room { let m = mesh xs.now hexes.now quads.now segments.now points.now in Room out.old at (concat_map (vertex_line m (topology m)) (up_from 0 (length xs.now / 3))) }
     ensures { let m = mesh xs.now hexes.now quads.now segments.now points.now in Appended out.old out.new at result (concat_map (vertex_line m (topology m)) (up_from 0 (length xs.now / 3))) }
 {
     let n = (xs.len() / 3) as u32;

@@ -36,9 +36,9 @@ fn write_front(
     res: &mut [u8],
 ) -> i64
     requires { Room c (mesh xs.now hexes.now quads.now segments.now points.now) }
-    ensures result_value { let m = front c (mesh xs.now hexes.now quads.now segments.now points.now) in
+    ensures answer { let m = front c (mesh xs.now hexes.now quads.now segments.now points.now) in
         result ≡ signed (writing_refusal m (length res.old)) (length (stored_form m)) }
-    ensures res_after { let m = front c (mesh xs.now hexes.now quads.now segments.now points.now) in
+    ensures output { let m = front c (mesh xs.now hexes.now quads.now segments.now points.now) in
         res.new ≡ writing_output m res.old }
 {
     let v = 3 * c.vertices as usize;

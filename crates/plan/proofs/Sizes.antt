@@ -17,17 +17,17 @@ use Rattle.soundness.specs.Accepted.{Accepted}
 use Rattle.soundness.proofs.Rounds.{counts_now, in_range_lem}
 use Rattle.counting.specs.Bounded.{Bounded}
 
-parts_of_lem : (t : Topology) (d : ℕ) (κ : Kind) → List (List ℕ)
-parts_of_lem t d κ = concat_map (λ (cell : List ℕ). map (corners_at cell) (places κ d)) (cells_of t κ)
+parts_of : (t : Topology) (d : ℕ) (κ : Kind) → List (List ℕ)
+parts_of t d κ = concat_map (λ (cell : List ℕ). map (corners_at cell) (places κ d)) (cells_of t κ)
 
-parts_count : (t : Topology) (d : ℕ) (κ : Kind) → length (parts_of_lem t d κ) ≡ length (places κ d) * length (cells_of t κ)
-unfolding parts_of_lem
+parts_count : (t : Topology) (d : ℕ) (κ : Kind) → length (parts_of t d κ) ≡ length (places κ d) * length (cells_of t κ)
+unfolding parts_of
 parts_count t d κ = length_concat_map (λ (cell : List ℕ). map (corners_at cell) (places κ d)) (length (places κ d)) (cells_of t κ) (λ cell i. length-map (places κ d) (corners_at cell))
 
 met_count : (t : Topology) (d : ℕ) → length (met t d) ≡ length (places hex d) * length t.hexes + (length (places quad d) * length t.quads + (length (places segment d) * length t.segments + length (places point d) * length t.points))
-unfolding met concat_map parts_of_lem
+unfolding met concat_map parts_of
 met_count t d =
-    let p = parts_of_lem t d in
+    let p = parts_of t d in
     omega (arith, length-append (p hex) (p quad ++ (p segment ++ (p point ++ []))), length-append (p quad) (p segment ++ (p point ++ [])), length-append (p segment) (p point ++ []), length-append (p point) [], parts_count t d hex, parts_count t d quad, parts_count t d segment, parts_count t d point)
 
 few_parts : (t : Topology) (d : ℕ) → length (distinct_parts t d) ≤ length (met t d)

@@ -31,11 +31,11 @@ pub fn run(
     words: &mut [u32],
     longs: &mut [u64],
 ) -> CountsAnswer
-    ensures result_value { let m = mesh xs.now hs.now qs.now ss.now ps.now in
+    ensures answer { let m = mesh xs.now hs.now qs.now ss.now ps.now in
         let out = mesh ox.old oh.old oq.old os.old op.old in
         let work = mesh wx.old wh.old wq.old ws.old wp.old in
         result ≡ refining_answer m rounds out work words.old longs.old }
-    ensures op_after { let m = mesh xs.now hs.now qs.now ss.now ps.now in
+    ensures output { let m = mesh xs.now hs.now qs.now ss.now ps.now in
         let out = mesh ox.old oh.old oq.old os.old op.old in
         let work = mesh wx.old wh.old wq.old ws.old wp.old in
         mesh ox.new oh.new oq.new os.new op.new ≡ refining_output m rounds out work words.old longs.old }

@@ -21,8 +21,8 @@ pub fn copy_front(
     os: &mut [u32],
     op: &mut [u32],
 )
-    requires room { Room sizes (mesh xs.now hs.now qs.now ss.now ps.now) }
-    requires room_2 { Room sizes (mesh ox.old oh.old oq.old os.old op.old) }
+    requires source_room { Room sizes (mesh xs.now hs.now qs.now ss.now ps.now) }
+    requires room { Room sizes (mesh ox.old oh.old oq.old os.old op.old) }
     ensures { let old = mesh ox.old oh.old oq.old os.old op.old in
         let tables = mesh xs.now hs.now qs.now ss.now ps.now in
         mesh ox.new oh.new oq.new os.new op.new ≡ result_tables 0 old (sized_front sizes tables) }

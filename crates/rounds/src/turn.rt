@@ -73,7 +73,7 @@ fn round_front(
     longs: &mut [u64],
 )
     requires room { Room sizes (mesh xs.now hs.now qs.now ss.now ps.now) }
-    requires fact { let m = sized_front sizes (mesh xs.now hs.now qs.now ss.now ps.now) in
+    requires ready { let m = sized_front sizes (mesh xs.now hs.now qs.now ss.now ps.now) in
         Ready m sizes (mesh ox.old oh.old oq.old os.old op.old) words.old longs.old }
     ensures { let m = sized_front sizes (mesh xs.now hs.now qs.now ss.now ps.now) in
         let old = mesh ox.old oh.old oq.old os.old op.old in
@@ -118,7 +118,7 @@ pub fn turn(
     longs: &mut [u64],
 )
     requires room { Room sizes (mesh wx.old wh.old wq.old ws.old wp.old) }
-    requires fact { let out = mesh ox.old oh.old oq.old os.old op.old in
+    requires ready { let out = mesh ox.old oh.old oq.old os.old op.old in
         Room sizes out × Ready (sized_front sizes out) sizes out words.old longs.old }
     ensures { let old = mesh ox.old oh.old oq.old os.old op.old in
         mesh ox.new oh.new oq.new os.new op.new ≡ result_tables 0 old (round (sized_front sizes old)) }

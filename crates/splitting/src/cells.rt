@@ -150,7 +150,7 @@ fn cell_numbers(
     requires cell_len { length cell.now ≡ corner_count kind }
     requires faces_bound { base.vertices + base.edges + base.faces ≤ 2 ^ 32 }
     requires own_bound { own < 2 ^ 32 }
-    requires in_bounds { 27 ≤ length numbers.old }
+    requires numbers_in_bounds { 27 ≤ length numbers.old }
     ensures both_met { BothMet base w.old w.new n (part_keys (edges_of kind) cell.now)
         (part_keys (faces_of kind) cell.now) result }
     ensures cell_numbered { CellNumbered base w.old n kind cell.now own numbers.old numbers.new }
@@ -199,8 +199,8 @@ fn split_cell(
     requires cell_len { length cell.now ≡ corner_count kind }
     requires faces_bound { base.vertices + base.edges + base.faces ≤ 2 ^ 32 }
     requires own_bound { own < 2 ^ 32 }
-    requires kind_in_bounds { at + corner_count kind * corner_count kind ≤ length out.old }
-    requires in_bounds { 27 ≤ length numbers.old }
+    requires children_in_bounds { at + corner_count kind * corner_count kind ≤ length out.old }
+    requires numbers_in_bounds { 27 ≤ length numbers.old }
     ensures both_met { BothMet base w.old w.new n (part_keys (edges_of kind) cell.now)
         (part_keys (faces_of kind) cell.now) result }
     ensures cell_split { CellSplit base w.old n kind cell.now own at out.old out.new }
@@ -241,9 +241,9 @@ fn split_entry(
     requires i_in_bounds { i < length cells.now / corner_count kind }
     requires faces_bound { base.vertices + base.edges + base.faces ≤ 2 ^ 32 }
     requires own_bound { own < 2 ^ 32 }
-    requires i_in_bounds_2 { corner_count kind * (corner_count kind * (i + 1)) ≤ length out.old }
-    requires in_bounds { 8 ≤ length cell.old }
-    requires in_bounds_2 { 27 ≤ length numbers.old }
+    requires children_in_bounds { corner_count kind * (corner_count kind * (i + 1)) ≤ length out.old }
+    requires cell_in_bounds { 8 ≤ length cell.old }
+    requires numbers_in_bounds { 27 ≤ length numbers.old }
     ensures both_met { BothMet base w.old w.new n (part_keys (edges_of kind) (entry_of kind cells.now i))
         (part_keys (faces_of kind) (entry_of kind cells.now i)) result }
     ensures cell_split { CellSplit base w.old n kind (entry_of kind cells.now i) own (corner_count kind * (corner_count kind * i))
@@ -286,8 +286,8 @@ fn split_each(
     requires room { Room base w.old n (edges_met kind (cells_in kind cells.now)) (faces_met kind (cells_in kind cells.now)) }
     requires listed { Listed kind edge_places.now face_places.now smallest.now }
     requires faces_bound { base.vertices + base.edges + base.faces ≤ 2 ^ 32 }
-    requires kind_bound { own + length cells.now / corner_count kind ≤ 2 ^ 32 }
-    requires kind_in_bounds { corner_count kind * (corner_count kind * (length cells.now / corner_count kind)) ≤ length out.old }
+    requires own_bound { own + length cells.now / corner_count kind ≤ 2 ^ 32 }
+    requires children_in_bounds { corner_count kind * (corner_count kind * (length cells.now / corner_count kind)) ≤ length out.old }
     ensures both_met { BothMet base w.old w.new n (edges_met kind (cells_in kind cells.now))
         (faces_met kind (cells_in kind cells.now)) result }
     ensures table_split { TableSplit base w.old n kind cells.now own (length cells.now / corner_count kind)
@@ -331,8 +331,8 @@ pub fn split_cells(
 ) -> Known
     requires room { Room base w.old n (edges_met kind (cells_in kind cells.now)) (faces_met kind (cells_in kind cells.now)) }
     requires faces_bound { base.vertices + base.edges + base.faces ≤ 2 ^ 32 }
-    requires kind_bound { own + length cells.now / corner_count kind ≤ 2 ^ 32 }
-    requires kind_in_bounds { corner_count kind * (corner_count kind * (length cells.now / corner_count kind)) ≤ length out.old }
+    requires own_bound { own + length cells.now / corner_count kind ≤ 2 ^ 32 }
+    requires children_in_bounds { corner_count kind * (corner_count kind * (length cells.now / corner_count kind)) ≤ length out.old }
     ensures both_met { BothMet base w.old w.new n (edges_met kind (cells_in kind cells.now))
         (faces_met kind (cells_in kind cells.now)) result }
     ensures table_split { TableSplit base w.old n kind cells.now own (length cells.now / corner_count kind)

@@ -24,8 +24,8 @@ pub mod cells;
 fn prepare_tables(words: &mut [u32], base: Base)
     requires faces_in_bounds { table_words base.edges base.faces ≤ length words.old }
     requires faces_bound { base.edges + base.faces + 1 < 2 ^ 32 }
-    ensures table { Table 2 (edge_words base words.new) base.edges 0 }
-    ensures table_2 { Table 4 (face_words base words.new) base.faces 0 }
+    ensures edge_table { Table 2 (edge_words base words.new) base.edges 0 }
+    ensures face_table { Table 4 (face_words base words.new) base.faces 0 }
 {
     let at = 4 * base.edges + 1;
     numbering::table::prepare(&mut words[..at], base.edges);

@@ -26,8 +26,8 @@ pub fn counts_of(xs: usize, hexes: usize, quads: usize, segments: usize, points:
 
 // Puts the header. Answers the bit behind it.
 fn put_header(d: &mut [u8], width: u32, c: Counts) -> usize
-    requires in_bounds { (13 ≤ length d.old) × (width < 2 ^ 5) × (c.vertices < 2 ^ 20) }
-    requires hexes_bound { (c.hexes < 2 ^ 18) × (c.quads < 2 ^ 18) × (c.segments < 2 ^ 18) × (c.points < 2 ^ 18) }
+    requires header_fits { (13 ≤ length d.old) × (width < 2 ^ 5) × (c.vertices < 2 ^ 20) }
+    requires counts_fit { (c.hexes < 2 ^ 18) × (c.quads < 2 ^ 18) × (c.segments < 2 ^ 18) × (c.points < 2 ^ 18) }
     ensures { (result ≡ 101) × (d.new ≡ put_all d.old 0 (header_fields (record { form = form_number; width = width; counts = c }))) }
 {
     let at = bits::put_field(d, 0, 4, 1);

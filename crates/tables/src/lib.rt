@@ -63,10 +63,10 @@ pub fn clear(
     words: &mut [u32],
     longs: &mut [u64],
 )
-    ensures ps_after { let old = mesh xs.old hs.old qs.old ss.old ps.old in
+    ensures tables { let old = mesh xs.old hs.old qs.old ss.old ps.old in
         mesh xs.new hs.new qs.new ss.new ps.new ≡ cleared_tables old }
-    ensures words_after { words.new ≡ cleared words.old }
-    ensures longs_after { longs.new ≡ cleared longs.old }
+    ensures words { words.new ≡ cleared words.old }
+    ensures longs { longs.new ≡ cleared longs.old }
 {
     memory::clear_i32(xs);
     memory::clear_u32(hs);
