@@ -10,7 +10,7 @@ use borrow.Author.Tests.{not-false, eqb-true}
 use Rattle.rules.specs.Lists.{any, repeats, entries, cut, up_from, has, key_of, same}
 use Rattle.rules.specs.Mesh.{Mesh, Kind, hex, quad, segment, point, kinds, corners, mesh, topology, cells_of}
 use Rattle.rules.specs.Refusals.{partial_entry, corner_out_of_range, repeated_corner, duplicate_cell, mismatched_face, isolated_vertex}
-use Rattle.lists.proofs.Tests.{or-false, or_neither, any_same}
+use Rattle.lists.proofs.Tests.{or_false, or_neither, any_same}
 use Rattle.lists.proofs.Tables.{any_cut}
 use Rattle.checks.specs.Held.{isolated_in}
 use Rattle.checks.proofs.WalkLaws.{met_mesh}
@@ -28,7 +28,7 @@ each_kind p = p hex || (p quad || (p segment || p point))
 
 any_kinds : (p : Kind → Bool) → any p kinds ≡ each_kind p
 unfolding any
-any_kinds p = rw (or-false (p point))
+any_kinds p = rw (or_false (p point))
 
 pub cells_cut : (m : Mesh) (κ : Kind) → cells_of (topology m) κ ≡ cut (corners κ) (table_of m κ)
 unfolding topology

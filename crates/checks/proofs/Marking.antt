@@ -12,7 +12,7 @@ use lib.Seq.{get_or-set_same, get_or-set_other, take_all}
 use borrow.Author.Tests.{eqb-true, eqb-false, ne_eqb}
 use Rattle.rules.specs.Lists.{any, up_from, has}
 use Rattle.lists.proofs.Membership.{in_up_from, up_from_shift}
-use Rattle.lists.proofs.Tests.{any_turn, any_map, any_same, or_true, or-false}
+use Rattle.lists.proofs.Tests.{any_turn, any_map, any_same, or_true, or_false}
 use Rattle.numbering.proofs.Firsts.{firsts_get_or}
 use Rattle.checks.specs.Held.{isolated_in}
 use Rattle.checks.specs.Marked.{Marked}
@@ -39,7 +39,7 @@ module _ {first x : ℕ} {old new : List ℕ} (table : List ℕ) (i : ℕ) (m : 
               let q : v ≡ place = omega (arith, eqb-true (first + v) (get_or table i 0) e) in
               rw (more (first + v), e, or_true (any (eqb (first + v)) (take i table)), q) (get_or-set_same new place x 0 (rw m.kept l))
           go false e =
-              rw (more (first + v), e, or-false (any (eqb (first + v)) (take i table)))
+              rw (more (first + v), e, or_false (any (eqb (first + v)) (take i table)))
               (get_or-set_other new place v x 0 (λ q. eqb-false (first + v) (get_or table i 0) e (omega arith)) ∙ m.at v k)
 
   -- it is not
@@ -47,7 +47,7 @@ module _ {first x : ℕ} {old new : List ℕ} (table : List ℕ) (i : ℕ) (m : 
   unfolding has
   mark_miss f = record {
     kept = m.kept;
-    at = λ v k. rw (more (first + v), ne_eqb (first + v) (get_or table i 0) (f v k), or-false (any (eqb (first + v)) (take i table))) (m.at v k);
+    at = λ v k. rw (more (first + v), ne_eqb (first + v) (get_or table i 0) (f v k), or_false (any (eqb (first + v)) (take i table))) (m.at v k);
   }
 
 pub mark_end : {first x : ℕ} {old new : List ℕ} (table : List ℕ) (i : ℕ) → Marked first x old new (take i table) → length table ≤ i

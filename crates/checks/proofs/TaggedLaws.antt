@@ -111,15 +111,15 @@ module _ {c : ℕ} {w ys : List ℕ} {room n number count : ℕ} (k : Key) (t : 
   pub agreed_new : n < count → Agreed c w (set after (words_for c room + number) t) room n count k t
   agreed_new h =
       let size = words_for c room in
-      let same-front : front c room (set after (size + number) t) ≡ ys = take-set-le size after (size + number) t (omega arith)
+      let same_front : front c room (set after (size + number) t) ≡ ys = take-set-le size after (size + number) t (omega arith)
       ∙ front_is size w ys l in
       record {
         tagged = record {
           fits = rw (length-set after (size + number) t, whole_length size w ys l size_le) tagged.fits;
-          table = rw same-front met.table;
+          table = rw same_front met.table;
         };
-        keys_are = rw same-front met.keys_are;
-        own = rw (same-front, ← met.number_is) (get_or-set_same after (size + number) t 0 number_within);
+        keys_are = rw same_front met.keys_are;
+        own = rw (same_front, ← met.number_is) (get_or-set_same after (size + number) t 0 number_within);
         others = λ d i. get_or-set_other after (size + number) (size + d) t 0 (λ q. omega (arith, last h, q)) ∙ behind_is size w ys l d;
       }
 
@@ -127,14 +127,14 @@ module _ {c : ℕ} {w ys : List ℕ} {room n number count : ℕ} (k : Key) (t : 
   pub agreed_known : get_or after (words_for c room + number) 0 ≡ t → Agreed c w after room n count k t
   agreed_known e =
       let size = words_for c room in
-      let same-front : front c room after ≡ ys = front_is size w ys l in
+      let same_front : front c room after ≡ ys = front_is size w ys l in
       record {
         tagged = record {
           fits = rw (whole_length size w ys l size_le) tagged.fits;
-          table = rw same-front met.table;
+          table = rw same_front met.table;
         };
-        keys_are = rw same-front met.keys_are;
-        own = rw (same-front, ← met.number_is) e;
+        keys_are = rw same_front met.keys_are;
+        own = rw (same_front, ← met.number_is) e;
         others = λ d i. behind_is size w ys l d;
       }
 

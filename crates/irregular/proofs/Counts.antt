@@ -92,10 +92,10 @@ module _ {first n rank : ℕ} {old new : List ℕ} (table : List ℕ) (i : ℕ) 
         -- the vertex of this corner
         this : get_or (set new (n + place) (get_or new (n + place) 0 + 1)) (n + place) 0 ≡ get_or old (n + place) 0 + cond (eqb rank (get_or old place 0)) (times (first + place) (take (i + 1) table)) 0
         this =
-            let has-rank : eqb rank (get_or old place 0) ≡ true = eq-eqb rank (get_or old place 0) (match ∙ at.ranks place l) in
-            let before = rw has-rank at (at.counts place l) in
+            let has_rank : eqb rank (get_or old place 0) ≡ true = eq-eqb rank (get_or old place 0) (match ∙ at.ranks place l) in
+            let before = rw has_rank at (at.counts place l) in
             let more : times (first + place) (take (i + 1) table) ≡ times (first + place) (take i table) + 1 = times_turn (first + place) table i h ∙ rw (eq-eqb (first + place) (get_or table i 0) p) in
-            get_or-set_same new (n + place) (get_or new (n + place) 0 + 1) 0 (omega (arith, at.kept)) ∙ rw (has-rank, more) (omega arith)
+            get_or-set_same new (n + place) (get_or new (n + place) 0 + 1) 0 (omega (arith, at.kept)) ∙ rw (has_rank, more) (omega arith)
 
         go : (v : ℕ) → v < n → (b : Bool) → eqb v place ≡ b
             → get_or (set new (n + place) (get_or new (n + place) 0 + 1)) (n + v) 0 ≡ get_or old (n + v) 0 + cond (eqb rank (get_or old v 0)) (times (first + v) (take (i + 1) table)) 0

@@ -60,9 +60,9 @@ pub or_true : (p : Bool) → (p || true) ≡ true
 or_true true = refl
 or_true false = refl
 
-pub or-false : (p : Bool) → (p || false) ≡ p
-or-false true = refl
-or-false false = refl
+pub or_false : (p : Bool) → (p || false) ≡ p
+or_false true = refl
+or_false false = refl
 
 pub or_assoc : (p q r : Bool) → ((p || q) || r) ≡ (p || (q || r))
 or_assoc true q r = refl
@@ -128,7 +128,7 @@ module _ {A : Type 0} where
   unfolding any
   any_turn p xs i d h =
       ap (any p) (take-suc xs i d h) ∙ any_append p (take i xs) (get_or xs i d ∷ [])
-      ∙ ap (λ (b : Bool). any p (take i xs) || b) (or-false (p (get_or xs i d)))
+      ∙ ap (λ (b : Bool). any p (take i xs) || b) (or_false (p (get_or xs i d)))
 
 module _ {A B : Type 0} where
   pub any_map : (p : B → Bool) (f : A → B) (xs : List A) → any p (map f xs) ≡ any (λ (x : A). p (f x)) xs

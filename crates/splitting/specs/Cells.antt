@@ -25,10 +25,10 @@ abbrev pub numbers_in : ℕ → List Key → List Key → List ℕ
 numbers_in base ks all = map (λ (k : Key). base + index_of k all) ks
 
 -- The numbers of the fine vertices of a cell: its corners, its edges, its faces, its own. `edges` and `faces` are those of the mesh; their
--- vertices are numbered from `edgeBase` and from `faceBase` on.
+-- vertices are numbered from `edge_base` and from `face_base` on.
 unfoldable pub cell_numbers : CellKind → ℕ → List Key → ℕ → List Key → ℕ → List ℕ → List ℕ
-cell_numbers kind edgeBase edges faceBase faces own cell =
-    cell ++ (numbers_in edgeBase (part_keys (edges_of kind) cell) edges ++ (numbers_in faceBase (part_keys (faces_of kind) cell) faces ++ (own ∷ [])))
+cell_numbers kind edge_base edges face_base faces own cell =
+    cell ++ (numbers_in edge_base (part_keys (edges_of kind) cell) edges ++ (numbers_in face_base (part_keys (faces_of kind) cell) faces ++ (own ∷ [])))
 
 -- the numbers that a row of the table of smallest parts picks: the corners of a child
 abbrev pub picked : List ℕ → List ℕ → List ℕ
@@ -40,5 +40,5 @@ child_corners κ numbers = concat_map (picked numbers) (smallest_table κ)
 
 -- the corners of the children of the first n cells of a flat table; cell number i has the own number own + i
 unfoldable pub first_children : CellKind → ℕ → List Key → ℕ → List Key → ℕ → List ℕ → ℕ → List ℕ
-first_children kind edgeBase edges faceBase faces own cells n =
-    concat_map (λ (i : ℕ). child_corners (kind_of kind) (cell_numbers kind edgeBase edges faceBase faces (own + i) (entry_of kind cells i))) (up_from 0 n)
+first_children kind edge_base edges face_base faces own cells n =
+    concat_map (λ (i : ℕ). child_corners (kind_of kind) (cell_numbers kind edge_base edges face_base faces (own + i) (entry_of kind cells i))) (up_from 0 n)

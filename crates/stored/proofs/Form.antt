@@ -207,16 +207,16 @@ under_stands s =
     let C = table_at s at.vertices 30 (3 * h.counts.vertices) in
     let again : map to_field m.vertices ≡ C = fields_again C (table_lt s at.vertices 30 (3 * h.counts.vertices)) in
     let long : at.vertices + 30 * length (map to_field m.vertices) ≡ at.hexes = omega (arith, length-map m.vertices to_field, z.vertices) in
-    let long-hexes : at.hexes + h.width * length m.hexes ≡ at.quads = rw z.hexes in
-    let long-quads : at.quads + h.width * length m.quads ≡ at.segments = rw z.quads in
-    let long-segments : at.segments + h.width * length m.segments ≡ at.points = rw z.segments in
+    let long_hexes : at.hexes + h.width * length m.hexes ≡ at.quads = rw z.hexes in
+    let long_quads : at.quads + h.width * length m.quads ≡ at.segments = rw z.quads in
+    let long_segments : at.segments + h.width * length m.segments ≡ at.points = rw z.segments in
     stand_append (header_fields h) (tables_under h m) s 0 (header_stands s)
     (subst (λ (p : ℕ). Stand s p (tables_under h m)) (sym (ap (λ (x : ℕ). 0 + x) (bits_header h)))
     (table_then s at.vertices at.hexes 30 (map to_field m.vertices) _ long
     (subst (λ (t : List ℕ). Stand s at.vertices (table_fields 30 t)) (sym again) (table_stands s at.vertices 30 (3 * h.counts.vertices)))
-    (table_then s at.hexes at.quads h.width m.hexes _ long-hexes (table_stands s at.hexes h.width (8 * h.counts.hexes))
-    (table_then s at.quads at.segments h.width m.quads _ long-quads (table_stands s at.quads h.width (4 * h.counts.quads))
-    (table_then s at.segments at.points h.width m.segments _ long-segments (table_stands s at.segments h.width (2 * h.counts.segments))
+    (table_then s at.hexes at.quads h.width m.hexes _ long_hexes (table_stands s at.hexes h.width (8 * h.counts.hexes))
+    (table_then s at.quads at.segments h.width m.quads _ long_quads (table_stands s at.quads h.width (4 * h.counts.quads))
+    (table_then s at.segments at.points h.width m.segments _ long_segments (table_stands s at.segments h.width (2 * h.counts.segments))
     (table_stands s at.points h.width h.counts.points))))))
 
 -- Where the fields of a mesh stand in a file, that mesh is read.

@@ -14,14 +14,14 @@ use Rattle.bits.proofs.Coordinates.{to_field_lt, add_below, not_below}
 use Rattle.bits.proofs.to_field.Statement.{statement}
 use Rattle.bits.proofs.to_field.Tie as tie
 
-is-z : (c : tie.Start) → to_z w32 (of_z w32 c.args.z) ≡ c.args.z
-is-z c = to_z-of_z c.ranges.z
+is_z : (c : tie.Start) → to_z w32 (of_z w32 c.args.z) ≡ c.args.z
+is_z c = to_z-of_z c.ranges.z
 
 sum : (c : tie.Then-z-lt0) → to_z w32 (of_z w32 c.args.z) +ℤ pos (2 ^ 30) ≡ pos (to_field c.args.z)
 sum c =
     let z = c.args.z in
-    ap (λ (x : ℤ). x +ℤ pos (2 ^ 30)) (is-z c.before)
-    ∙ add_below z c.requires (sym (ap (λ (x : ℤ). lt_z x (pos 0)) (is-z c.before)) ∙ c.if-z-lt0.true)
+    ap (λ (x : ℤ). x +ℤ pos (2 ^ 30)) (is_z c.before)
+    ∙ add_below z c.requires (sym (ap (λ (x : ℤ). lt_z x (pos 0)) (is_z c.before)) ∙ c.if-z-lt0.true)
 
 add-result : tie.Need-overflow_add-result
 add-result c =
@@ -32,8 +32,8 @@ whole c = to_z-of_z (add-result c) ∙ sum c
 
 plain : (c : tie.Else-z-lt0) → to_z w32 (of_z w32 c.args.z) ≡ pos (to_field c.args.z)
 plain c =
-    is-z c.before
-    ∙ not_below c.args.z (sym (ap (λ (x : ℤ). lt_z x (pos 0)) (is-z c.before)) ∙ c.if-z-lt0.false)
+    is_z c.before
+    ∙ not_below c.args.z (sym (ap (λ (x : ℤ). lt_z x (pos 0)) (is_z c.before)) ∙ c.if-z-lt0.false)
 
 -- a number that is a field can be a u32
 is_word : (start : tie.Start) (x : ℤ) → x ≡ pos (to_field start.args.z) → T (non_neg x) × Fits w32 (nat_abs x)

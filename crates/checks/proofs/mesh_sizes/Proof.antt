@@ -18,22 +18,22 @@ use Rattle.checks.proofs.mesh_sizes.Tie as tie
 abbrev mesh_of : tie.Start → Mesh
 mesh_of s = mesh s.args.xs.now s.args.hexes.now s.args.quads.now s.args.segments.now s.args.points.now
 
-vertex-count : (m : Mesh) → (topology m).vertex_count ≡ length m.vertices / 3
+vertex_count : (m : Mesh) → (topology m).vertex_count ≡ length m.vertices / 3
 unfolding topology
-vertex-count m = refl
+vertex_count m = refl
 
-sizes-are : (m : Mesh) (e f : ℕ) → e ≡ length (edges (topology m)) → f ≡ length (faces (topology m))
+sizes_are : (m : Mesh) (e f : ℕ) → e ≡ length (edges (topology m)) → f ≡ length (faces (topology m))
     → ◌≡◌ {A = Sizes}
     (record { vertices = length m.vertices / 3; edges = e; faces = f; hexes = length m.hexes / 8; quads = length m.quads / 4; segments = length m.segments / 2; points = length m.points })
     (sizes (topology m))
 unfolding sizes
-sizes-are m e f edge face =
+sizes_are m e f edge face =
     let t = topology m in
     let h = entries m hex in
     let k = entries m quad in
     let s = entries m segment in
     let o : length t.points ≡ length m.points = entries m point ∙ div-one (length m.points) in
-    let n = vertex-count m in
+    let n = vertex_count m in
     cc
   where
     entries : (m : Mesh) (κ : Kind) → length (cells_of (topology m) κ) ≡ length (table_of m κ) / corners κ
@@ -41,7 +41,7 @@ sizes-are m e f edge face =
 
 returns : tie.Need-returns
 returns c =
-    sizes-are (mesh_of c.before.before.before.before.before.before.before.before.before) c.edge_count-edges.result c.args.face_count (c.edge_count-edges.ensures ∙ count_mesh 1 (lit< tt) (mesh_of c.before.before.before.before.before.before.before.before.before)) c.requires.1.1
+    sizes_are (mesh_of c.before.before.before.before.before.before.before.before.before) c.edge_count-edges.result c.args.face_count (c.edge_count-edges.ensures ∙ count_mesh 1 (lit< tt) (mesh_of c.before.before.before.before.before.before.before.before.before)) c.requires.1.1
 
 pub mesh_sizes_spec : {M : Type 1} → statement M
 mesh_sizes_spec =

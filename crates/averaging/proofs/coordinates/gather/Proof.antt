@@ -29,12 +29,12 @@ loop-holds : tie.Need-loop-u-init invariant-loop decreases-loop
 loop-holds c = (omega arith, refl, λ v a k h. absurd (omega arith), λ q. rw (zeros 24 q) (lit< tt))
 
 -- one corner more
-corner-more : (corners : List ℕ) (at : ℕ) (xs : List ℤ) (gathered : List ℕ) (u x y z : ℕ) → 3 * u + 2 < length gathered
+corner_more : (corners : List ℕ) (at : ℕ) (xs : List ℤ) (gathered : List ℕ) (u x y z : ℕ) → 3 * u + 2 < length gathered
     → ((v a : ℕ) → v < u → a < 3 → gathered_at gathered a v ≡ corner_coordinate corners at xs a v)
     → ((a : ℕ) → a < 3 → get_or (x ∷ y ∷ z ∷ []) a 0 ≡ biased xs (3 * get_or corners (at + u) 0 + a))
     → (v a : ℕ) → v < u + 1 → a < 3 → gathered_at (triple 0 gathered u x y z) a v ≡ corner_coordinate corners at xs a v
 unfolding corner_coordinate
-corner-more corners at xs gathered u x y z fits old new v a k h =
+corner_more corners at xs gathered u x y z fits old new v a k h =
     one_more (λ (v e : ℕ). e ≡ corner_coordinate corners at xs a v) u (gathered_at (triple 0 gathered u x y z) a) (gathered_at gathered a) (λ v k. old v a k h)
     (triple_at 0 gathered u x y z a fits h ∙ new a h) (λ v n. triple_other 0 gathered u x y z v a h n) v k
 
@@ -50,7 +50,7 @@ loop-again c =
     let place : (q x : ℕ) → x ≡ biased a.xs.now (3 * c.vertex_at-v.result + q) → x ≡ biased a.xs.now (3 * get_or a.corners.now (a.n * a.c + l.u) 0 + q) = λ q x e. e ∙ ap (λ (v : ℕ). biased a.xs.now (3 * v + q)) v in (
       omega arith,
       simp length-set l.invariant.1,
-      corner-more a.corners.now (a.n * a.c) a.xs.now l.gathered l.u _ _ _ (omega (arith, l.invariant.1, c.requires.few)) l.invariant.2
+      corner_more a.corners.now (a.n * a.c) a.xs.now l.gathered l.u _ _ _ (omega (arith, l.invariant.1, c.requires.few)) l.invariant.2
           (on_axes 0 (λ (q x : ℕ). x ≡ biased a.xs.now (3 * get_or a.corners.now (a.n * a.c + l.u) 0 + q)) _ _ _
           (place 0 _ (c.biased_at-x.ensures.0 ∙ ap (biased a.xs.now) (none _))) (place 1 _ c.biased_at-y.ensures.0) (place 2 _ c.biased_at-z.ensures.0)),
       triple_all 0 (λ (x : ℕ). x < 2 ^ 30) l.gathered l.u _ _ _ l.invariant.3 c.biased_at-x.ensures.1 c.biased_at-y.ensures.1 c.biased_at-z.ensures.1,

@@ -22,21 +22,21 @@ trailing_lt (suc k) n p h = go (n % 2) refl (λ q. trailing_lt k (n / 2) q (let 
     go zero e rest = suc-le-suc (rest (omega arith))
     go (suc d) e rest = zero-lt-suc _
 
-zeros-lt : (c : lts.Start reads.Pre reads.Post) → count_trailing_zeros 64 c.args.divisor < 64
-zeros-lt c = trailing_lt 64 c.args.divisor c.requires (omega (arith, c.ranges.divisor))
+zeros_lt : (c : lts.Start reads.Pre reads.Post) → count_trailing_zeros 64 c.args.divisor < 64
+zeros_lt c = trailing_lt 64 c.args.divisor c.requires (omega (arith, c.ranges.divisor))
 
 -- The goals are answered by their places, so that nothing here has a name made of the test.
 pub quotient_spec : {M : Type 1} → statement M
 quotient_spec =
     tie.close
     (tie.spec
-    (λ c. search (rules, zeros-lt c))
-    (λ c. zeros-lt c)
-    (λ c. search (rules, zeros-lt c.before))
-    (λ c. zeros-lt c.before)
+    (λ c. search (rules, zeros_lt c))
+    (λ c. zeros_lt c)
+    (λ c. search (rules, zeros_lt c.before))
+    (λ c. zeros_lt c.before)
     (λ c.
     let k = count_trailing_zeros 64 c.args.divisor in
     let e : c.args.divisor ≡ (1 * 2 ^ k) % 2 ^ 64 = cc in
-    ap (λ (d : ℕ). c.args.sum / d) (sym (e ∙ shl_exact 1 k 64 (lit< tt) (omega (arith, zeros-lt c.before)) ∙ one-mul (2 ^ k))))
+    ap (λ (d : ℕ). c.args.sum / d) (sym (e ∙ shl_exact 1 k 64 (lit< tt) (omega (arith, zeros_lt c.before)) ∙ one-mul (2 ^ k))))
     (λ c. search rules)
     (λ c. search rules))

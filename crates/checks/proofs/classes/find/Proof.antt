@@ -23,18 +23,18 @@ sweep-all-requires c κs =
     rw (c.loop-classes.invariant.0, c.loop-classes.invariant.1) (omega (arith, c.if-w-eq0.false), (s.requires.0, (c.loop-classes.invariant.2, c.loop-classes-test.true)))
 
 -- the loop that a sweep is in
-abbrev loop-of : tie.After-sweep_all-found invariant-loop decreases-loop → tie.At-loop-classes invariant-loop decreases-loop
-loop-of m = m.before.before.before.before
+abbrev loop_of : tie.After-sweep_all-found invariant-loop decreases-loop → tie.At-loop-classes invariant-loop decreases-loop
+loop_of m = m.before.before.before.before
 
 returns-2 : tie.Need-returns-in_default invariant-loop decreases-loop
-returns-2 c = rw (loop-of c.before.before.before.before.before).loop-classes.invariant.1 at c.sweep_all-found.ensures
+returns-2 c = rw (loop_of c.before.before.before.before.before).loop-classes.invariant.1 at c.sweep_all-found.ensures
 
 loop-again : tie.Need-loop-classes-preserved invariant-loop decreases-loop
 loop-again c =
-    let l = loop-of c.before.before.before.before.before in
+    let l = loop_of c.before.before.before.before.before in
     (c.sweep_all-found.auto.w ∙ l.loop-classes.invariant.0, c.sweep_all-found.auto.key ∙ l.loop-classes.invariant.1, omega (arith, l.loop-classes.invariant.2))
 
-few : (c : tie.In-Unknown invariant-loop decreases-loop) → (loop-of c.before.before.before.before.before).loop-classes.classes ≤ 1024
+few : (c : tie.In-Unknown invariant-loop decreases-loop) → (loop_of c.before.before.before.before.before).loop-classes.classes ≤ 1024
 few c = c.loop-classes-test.true
 
 pub find_spec : {M : Type 1} → statement M
@@ -47,8 +47,8 @@ find_spec =
     (λ c. (refl, refl, c.requires.1))
     sweep-all-requires
     (λ c. search rules)
-    (λ c. c.sweep_all-found.auto.w ∙ (loop-of c.before.before.before.before.before).loop-classes.invariant.0)
-    (λ c. c.sweep_all-found.auto.key ∙ (loop-of c.before.before.before.before.before).loop-classes.invariant.1)
+    (λ c. c.sweep_all-found.auto.w ∙ (loop_of c.before.before.before.before.before).loop-classes.invariant.0)
+    (λ c. c.sweep_all-found.auto.key ∙ (loop_of c.before.before.before.before.before).loop-classes.invariant.1)
     returns-2
     (λ c. omega (arith, few c))
     (λ c. omega (arith, few c))

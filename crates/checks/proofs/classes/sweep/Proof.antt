@@ -52,36 +52,36 @@ meet-in-class-requires c κs =
 abbrev read_of : tie.After-meet_in_class-met invariant-loop decreases-loop → tie.After-read invariant-loop decreases-loop
 read_of m = m.before.before.before.before.before
 
-abbrev loop-of : tie.After-meet_in_class-met invariant-loop decreases-loop → tie.At-loop-i invariant-loop decreases-loop
-loop-of m = (read_of m).before.before.before
+abbrev loop_of : tie.After-meet_in_class-met invariant-loop decreases-loop → tie.At-loop-i invariant-loop decreases-loop
+loop_of m = (read_of m).before.before.before
 
 -- the lengths of the memory and of the key after a meeting
-same_w : (m : tie.After-meet_in_class-met invariant-loop decreases-loop) → length m.meet_in_class-met.new.w ≡ length (start (loop-of m)).args.w.now
-same_w m = m.meet_in_class-met.auto.w ∙ same (loop-of m)
+same_w : (m : tie.After-meet_in_class-met invariant-loop decreases-loop) → length m.meet_in_class-met.new.w ≡ length (start (loop_of m)).args.w.now
+same_w m = m.meet_in_class-met.auto.w ∙ same (loop_of m)
 
 returns : tie.Need-returns-in-Differs invariant-loop decreases-loop
 returns c =
     let r = read_of c.before.before.before.before.before in
-    let l = loop-of c.before.before.before.before.before in
+    let l = loop_of c.before.before.before.before.before in
     sweep_differs l.loop-i.invariant.2 (listed r.before.before)
     (rw l.loop-i.invariant.1 at r.read.ensures) (r.read.auto.corners ∙ l.loop-i.invariant.1) c.in-Differs.is c.meet_in_class-met.ensures
 
 loop-again : tie.Need-loop-i-preserved invariant-loop decreases-loop
 loop-again c =
     let r = read_of c.before.before.before.before.before in
-    let l = loop-of c.before.before.before.before.before in (
+    let l = loop_of c.before.before.before.before.before in (
       c.meet_in_class-met.auto.w ∙ l.loop-i.invariant.0,
       c.meet_in_class-met.auto.corners ∙ r.read.auto.corners ∙ l.loop-i.invariant.1,
       sweep_turn l.loop-i.invariant.2 (listed r.before.before)
           (rw l.loop-i.invariant.1 at r.read.ensures) (r.read.auto.corners ∙ l.loop-i.invariant.1) c.in-Agrees.is c.meet_in_class-met.ensures,
     )
 
-same_key : (m : tie.After-meet_in_class-met invariant-loop decreases-loop) → length m.meet_in_class-met.new.corners ≡ length (start (loop-of m)).args.key.now
-same_key m = m.meet_in_class-met.auto.corners ∙ (read_of m).read.auto.corners ∙ (loop-of m).loop-i.invariant.1
+same_key : (m : tie.After-meet_in_class-met invariant-loop decreases-loop) → length m.meet_in_class-met.new.corners ≡ length (start (loop_of m)).args.key.now
+same_key m = m.meet_in_class-met.auto.corners ∙ (read_of m).read.auto.corners ∙ (loop_of m).loop-i.invariant.1
 
 -- there are more to look at
 more : (c : tie.In-Agrees invariant-loop decreases-loop) →
-    let l = loop-of c.before.before.before.before.before in
+    let l = loop_of c.before.before.before.before.before in
     l.loop-i.i < l.count_of-count.result
 more c = (read_of c.before.before.before.before.before).loop-i-test.true
 

@@ -32,21 +32,21 @@ sweep-requires c κs =
     rw (c.loop-class.invariant.0, c.loop-class.invariant.1) (s.requires.0, (s.requires.1.0, s.requires.1.1.1))
 
 -- the loop that a sweep is in
-abbrev loop-of : tie.After-sweep-found invariant-loop decreases-loop → tie.At-loop-class invariant-loop decreases-loop
-loop-of m = m.before.before.before.before
+abbrev loop_of : tie.After-sweep-found invariant-loop decreases-loop → tie.At-loop-class invariant-loop decreases-loop
+loop_of m = m.before.before.before.before
 
 returns : tie.Need-returns-in_default invariant-loop decreases-loop
 returns c =
-    let l = loop-of c.before.before.before.before.before in
+    let l = loop_of c.before.before.before.before.before in
     found_all (start l).args.of (start l).args.classes l.loop-class.class (ps (start l)) c.sweep-found.result c.in_default.in_default-own.keys2
     (rw l.loop-class.invariant.1 at c.sweep-found.ensures)
 
 -- one class more
 turn : (c : tie.In-Passes invariant-loop decreases-loop) →
-    let l = loop-of c.before.before.before.before.before in
+    let l = loop_of c.before.before.before.before.before in
     Totalling (start l).args.of (start l).args.classes (ps (start l)) (l.loop-class.n + c.in-Passes.more) (l.loop-class.class + 1)
 turn c =
-    let l = loop-of c.before.before.before.before.before in
+    let l = loop_of c.before.before.before.before.before in
     total_turn l.loop-class.invariant.2 c.loop-class-test.true c.sweep-found.result c.in-Passes.is
     (rw l.loop-class.invariant.1 at c.sweep-found.ensures)
 
@@ -57,7 +57,7 @@ fits s =
 
 loop-again : tie.Need-loop-class-preserved invariant-loop decreases-loop
 loop-again c =
-    let l = loop-of c.before.before.before.before.before in
+    let l = loop_of c.before.before.before.before.before in
     (c.sweep-found.auto.w ∙ l.loop-class.invariant.0, c.sweep-found.auto.key ∙ l.loop-class.invariant.1, turn c)
 
 pub sweep_all_spec : {M : Type 1} → statement M
@@ -69,10 +69,10 @@ sweep_all_spec =
     (λ c. (refl, refl, total_start _ _ _))
     sweep-requires
     (λ c. search rules)
-    (λ c. c.sweep-found.auto.w ∙ (loop-of c.before.before.before.before.before).loop-class.invariant.0)
-    (λ c. c.sweep-found.auto.key ∙ (loop-of c.before.before.before.before.before).loop-class.invariant.1)
+    (λ c. c.sweep-found.auto.w ∙ (loop_of c.before.before.before.before.before).loop-class.invariant.0)
+    (λ c. c.sweep-found.auto.key ∙ (loop_of c.before.before.before.before.before).loop-class.invariant.1)
     returns
-    (λ c. omega (arith, total_few (turn c), fits (start (loop-of c.before.before.before.before.before))))
+    (λ c. omega (arith, total_few (turn c), fits (start (loop_of c.before.before.before.before.before))))
     (λ c. omega (arith, c.loop-class-test.true))
     (λ c. omega (arith, c.loop-class-test.true))
     loop-again

@@ -9,17 +9,17 @@ use Rattle.checks.proofs.marks.has_isolated_in_window.Tie as tie
 kept : (c : tie.After-clear_u32) → length c.clear_u32.new.w ≡ length c.args.w.now
 kept c = ap length c.clear_u32.ensures ∙ length-replicate _ 0
 
-kept-1 : (c : tie.After-mark) → length c.mark.new.w ≡ length c.args.w.now
-kept-1 c = c.mark.ensures.kept ∙ kept c.before.before.before.before
+kept_1 : (c : tie.After-mark) → length c.mark.new.w ≡ length c.args.w.now
+kept_1 c = c.mark.ensures.kept ∙ kept c.before.before.before.before
 
-kept-2 : (c : tie.After-mark-2) → length c.mark-2.new.w ≡ length c.args.w.now
-kept-2 c = c.mark-2.ensures.kept ∙ kept-1 c.before.before.before.before
+kept_2 : (c : tie.After-mark-2) → length c.mark-2.new.w ≡ length c.args.w.now
+kept_2 c = c.mark-2.ensures.kept ∙ kept_1 c.before.before.before.before
 
-kept-3 : (c : tie.After-mark-3) → length c.mark-3.new.w ≡ length c.args.w.now
-kept-3 c = c.mark-3.ensures.kept ∙ kept-2 c.before.before.before.before
+kept_3 : (c : tie.After-mark-3) → length c.mark-3.new.w ≡ length c.args.w.now
+kept_3 c = c.mark-3.ensures.kept ∙ kept_2 c.before.before.before.before
 
 same_length : tie.Need-shape_of-w
-same_length c = c.mark-4.ensures.kept ∙ kept-3 c.before.before.before.before.before.before.before
+same_length c = c.mark-4.ensures.kept ∙ kept_3 c.before.before.before.before.before.before.before
 
 returns : tie.Need-returns
 returns c =

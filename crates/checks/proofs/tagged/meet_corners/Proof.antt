@@ -12,8 +12,8 @@ use Rattle.checks.specs.Tagged.{TagMet}
 use Rattle.checks.proofs.tagged.meet_corners.Statement.{statement}
 use Rattle.checks.proofs.tagged.meet_corners.Tie as tie
 
-met-same : (c c' : ℕ) (w w' : List ℕ) (room n : ℕ) (k k' : Key) (t : ℕ) (r : Met) → c ≡ c' → k ≡ k' → TagMet c w w' room n k t r → TagMet c' w w' room n k' t r
-met-same c c' w w' room n k k' t r d e m = rw (d, e) at m
+met_same : (c c' : ℕ) (w w' : List ℕ) (room n : ℕ) (k k' : Key) (t : ℕ) (r : Met) → c ≡ c' → k ≡ k' → TagMet c w w' room n k t r → TagMet c' w w' room n k' t r
+met_same c c' w w' room n k k' t r d e m = rw (d, e) at m
 
 -- the corners that are lent
 lent : (c : tie.Then-corners-eq4) → length (take 4 c.args.corners.now) ≡ 4
@@ -38,7 +38,7 @@ returns : tie.Need-returns-then-corners-eq4
 returns c =
     let a = (start c.before.before.before.before.before.before).args in
     let all = take_all 4 a.corners.now (omega (arith, c.if-corners-eq4.true)) in
-    met-same _ (length a.corners.now) _ _ a.room a.n _ (key_of a.corners.now) a.tag c.meet.result
+    met_same _ (length a.corners.now) _ _ a.room a.n _ (key_of a.corners.now) a.tag c.meet.result
     (ap length (front c.before.before.before.before.before.before) ∙ size c.before.before.before.before.before.before ∙ sym c.if-corners-eq4.true)
     (front c.before.before.before.before.before.before ∙ c.sort.ensures ∙ ap key_of all)
     c.meet.ensures

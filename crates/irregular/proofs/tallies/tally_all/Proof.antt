@@ -9,39 +9,39 @@ use Rattle.irregular.proofs.tallies.tally_all.Statement.{statement}
 use Rattle.irregular.proofs.tallies.tally_all.Tie as tie
 
 -- after the first, second and third table: the memory is as long as it was, and the counts are small
-kept-1 : (c : tie.After-tally) → length c.tally.new.w ≡ length c.args.w.now
-kept-1 c = c.tally.ensures.kept
+kept_1 : (c : tie.After-tally) → length c.tally.new.w ≡ length c.args.w.now
+kept_1 c = c.tally.ensures.kept
 
-kept-2 : (c : tie.After-tally-2) → length c.tally-2.new.w ≡ length c.args.w.now
-kept-2 c = c.tally-2.ensures.kept ∙ kept-1 c.before.before.before.before
+kept_2 : (c : tie.After-tally-2) → length c.tally-2.new.w ≡ length c.args.w.now
+kept_2 c = c.tally-2.ensures.kept ∙ kept_1 c.before.before.before.before
 
-kept-3 : (c : tie.After-tally-3) → length c.tally-3.new.w ≡ length c.args.w.now
-kept-3 c = c.tally-3.ensures.kept ∙ kept-2 c.before.before.before.before
+kept_3 : (c : tie.After-tally-3) → length c.tally-3.new.w ≡ length c.args.w.now
+kept_3 c = c.tally-3.ensures.kept ∙ kept_2 c.before.before.before.before
 
-small-1 : (c : tie.After-tally) (v : ℕ) → let a = c.args in v < a.n
+small_1 : (c : tie.After-tally) (v : ℕ) → let a = c.args in v < a.n
     → get_or c.tally.new.w (a.n + v) 0 ≤ length a.hexes.now
-small-1 c v l = omega (arith, tally_le c.tally.ensures v l, c.requires.1.1 v l)
+small_1 c v l = omega (arith, tally_le c.tally.ensures v l, c.requires.1.1 v l)
 
-small-2 : (c : tie.After-tally-2) (v : ℕ) → let a = c.args in v < a.n → get_or c.tally-2.new.w (a.n + v) 0 ≤ length a.hexes.now + length a.quads.now
-small-2 c v l = omega (arith, tally_le c.tally-2.ensures v l, small-1 c.before.before.before.before v l)
+small_2 : (c : tie.After-tally-2) (v : ℕ) → let a = c.args in v < a.n → get_or c.tally-2.new.w (a.n + v) 0 ≤ length a.hexes.now + length a.quads.now
+small_2 c v l = omega (arith, tally_le c.tally-2.ensures v l, small_1 c.before.before.before.before v l)
 
-small-3 : (c : tie.After-tally-3) (v : ℕ) → let a = c.args in v < a.n → get_or c.tally-3.new.w (a.n + v) 0 ≤ length a.hexes.now + length a.quads.now + length a.segments.now
-small-3 c v l = omega (arith, tally_le c.tally-3.ensures v l, small-2 c.before.before.before.before v l)
+small_3 : (c : tie.After-tally-3) (v : ℕ) → let a = c.args in v < a.n → get_or c.tally-3.new.w (a.n + v) 0 ≤ length a.hexes.now + length a.quads.now + length a.segments.now
+small_3 c v l = omega (arith, tally_le c.tally-3.ensures v l, small_2 c.before.before.before.before v l)
 
 tally-requires : tie.Need-tally-requires
 tally-requires c κs = (c.requires.0, λ v l. omega (arith, c.requires.1.1 v l, c.requires.1.0))
 
 tally-requires-2 : tie.Need-tally-requires-2
 tally-requires-2 c κs =
-    (rw (kept-1 c.before.before.before) c.requires.0, λ v l. omega (arith, small-1 c.before.before.before v l, c.requires.1.0))
+    (rw (kept_1 c.before.before.before) c.requires.0, λ v l. omega (arith, small_1 c.before.before.before v l, c.requires.1.0))
 
 tally-requires-3 : tie.Need-tally-requires-3
 tally-requires-3 c κs =
-    (rw (kept-2 c.before.before.before) c.requires.0, λ v l. omega (arith, small-2 c.before.before.before v l, c.requires.1.0))
+    (rw (kept_2 c.before.before.before) c.requires.0, λ v l. omega (arith, small_2 c.before.before.before v l, c.requires.1.0))
 
 tally-requires-4 : tie.Need-tally-requires-4
 tally-requires-4 c κs =
-    (rw (kept-3 c.before.before.before) c.requires.0, λ v l. omega (arith, small-3 c.before.before.before v l, c.requires.1.0))
+    (rw (kept_3 c.before.before.before) c.requires.0, λ v l. omega (arith, small_3 c.before.before.before v l, c.requires.1.0))
 
 returns : tie.Need-returns
 returns c =

@@ -29,9 +29,9 @@ runs m n =
     ++ (concat_map (vertex_line m (topology m)) (up_from 0 (length m.vertices / 3))
     ++ (cell_lines (text "h") (cut 8 m.hexes) ++ (cell_lines (text "q") (cut 4 m.quads) ++ (cell_lines (text "s") (cut 2 m.segments) ++ cell_lines (text "p") (cut 1 m.points)))))
 
-runs-are : (m : Mesh) → runs m (length m.points) ≡ mesh_lines m
+runs_are : (m : Mesh) → runs m (length m.points) ≡ mesh_lines m
 unfolding mesh_lines counts_of topology
-runs-are m = ap (runs m) (single (length m.points))
+runs_are m = ap (runs m) (single (length m.points))
   where
     single : (n : ℕ) → n ≡ n / 1
     single n = omega arith
@@ -46,7 +46,7 @@ room c =
     (λ i. (c.shared_slice_known-2-1.given i).fits)
     (λ i. (c.shared_slice_known-3-1.given i).fits)
     (λ i. (c.shared_slice_known-4-1.given i).fits) in
-    rw (runs-are (given c.before.before.before.before.before)) (record { fits = omega (arith, c.requires.1) })
+    rw (runs_are (given c.before.before.before.before.before)) (record { fits = omega (arith, c.requires.1) })
 
 pub mesh_lines_spec : {M : Type 1} → statement M
 mesh_lines_spec =
@@ -61,4 +61,4 @@ mesh_lines_spec =
     (λ c κs. (omega arith, room_first _ _ (room_rest _ c.append_mesh_line-a.ensures (room c.before.before.before.before.before))))
     (λ c κs. room_rest _ c.append_vertex_lines-b.ensures (room_rest _ c.append_mesh_line-a.ensures (room c.before.before.before.before.before.before.before.before.before)))
     (λ c. search rules)
-    (λ c. rw (← runs-are (given c.before.before.before.before.before.before.before.before.before.before.before.before.before.before.before.before.before)) (append_front (room c.before.before.before.before.before.before.before.before.before.before.before.before) (c.append_mesh_line-a.ensures then c.append_vertex_lines-b.ensures then c.append_cells.ensures))))
+    (λ c. rw (← runs_are (given c.before.before.before.before.before.before.before.before.before.before.before.before.before.before.before.before.before)) (append_front (room c.before.before.before.before.before.before.before.before.before.before.before.before) (c.append_mesh_line-a.ensures then c.append_vertex_lines-b.ensures then c.append_cells.ensures))))

@@ -18,11 +18,11 @@ abbrev tables : Mesh
 tables = mesh (replicate 3_000 (pos 0)) (replicate 2_048 0) (replicate 1_024 0) (replicate 512 0) (replicate 256 0)
 
 -- what the call of `refine_stored` promised
-refined-done : (d : tie.After-refine_stored-r) →
+refined_done : (d : tie.After-refine_stored-r) →
     Refining d.args.stored.now d.args.rounds tables
     (mesh d.refine_stored-r.new.ox d.refine_stored-r.new.oh d.refine_stored-r.new.oq d.refine_stored-r.new.os d.refine_stored-r.new.op)
     d.refine_stored-r.result
-refined-done d = record { answer = d.refine_stored-r.ensures.0; output = d.refine_stored-r.ensures.1 }
+refined_done d = record { answer = d.refine_stored-r.ensures.0; output = d.refine_stored-r.ensures.1 }
 
 refine-stored-requires : tie.Need-refine_stored-r-requires
 unfolding counts_of
@@ -30,18 +30,18 @@ refine-stored-requires c κs = refl
 
 returns : tie.Need-returns-then-refusal-ne0
 returns c =
-    let d = refined-done c.before.before.before.before.before.before.before in
+    let d = refined_done c.before.before.before.before.before.before.before in
     let start = c.args in
     let buffer = start.res.now in
     promised start.stored.now start.rounds buffer (to_z-of_z {w = w64} (record { sfits = c.signed.type_inv }) ∙ c.signed.ensures ∙ refining_refused d buffer c.if-refusal-ne0.true) (refining_kept d buffer c.if-refusal-ne0.true)
 
 write-front-requires : tie.Need-write_front-requires
 write-front-requires c κs =
-    finished_room (refined-done c.before.before.before.before.before.before.before.before.before.before.before.before.before) c.if-refusal-ne0.false
+    finished_room (refined_done c.before.before.before.before.before.before.before.before.before.before.before.before.before) c.if-refusal-ne0.false
 
 returns-2 : tie.Need-returns
 returns-2 c =
-    let d = refined-done c.before.before.before.before.before.before.before.before.before.before.before.before.before.before.before.before in
+    let d = refined_done c.before.before.before.before.before.before.before.before.before.before.before.before.before.before.before.before in
     let start = c.args in
     let buffer = start.res.now in
     let e = rw (finished_front d c.if-refusal-ne0.false) at c.write_front.ensures in

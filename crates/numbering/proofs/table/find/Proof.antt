@@ -31,10 +31,10 @@ returns c =
     walk_hit c.requires.0 c.args.key.now c.loop-x.x c.loop-x-test.true c.loop-x.invariant (sym c.if-is_at.true ∙ c.is_at.ensures)
 
 -- the link that is followed: its walk goes on, and it is less
-next-link : (c : tie.After-wide-x-in-loop-x invariant-loop decreases-loop) →
+next_link : (c : tie.After-wide-x-in-loop-x invariant-loop decreases-loop) →
     let a = c.args in
     Walk (length a.key.now) a.w.now a.room a.n a.key.now c.wide-x-in-loop-x.result × (c.wide-x-in-loop-x.result < c.loop-x.x)
-next-link c =
+next_link c =
     walk_on c.requires.0 c.args.key.now c.loop-x.x c.wide-x-in-loop-x.result c.loop-x-test.true c.loop-x.invariant (sym c.if-is_at.false ∙ c.is_at.ensures) c.wide-x-in-loop-x.ensures
 
 returns-2 : tie.Need-returns invariant-loop decreases-loop
@@ -62,6 +62,6 @@ find_spec =
     (λ c. omega (arith, inside c.before.before))
     (λ c. omega (arith, inside c.before.before.before))
     (λ c κs. search rules)
-    (λ c. (next-link c).1)
-    (λ c. (next-link c).0)
+    (λ c. (next_link c).1)
+    (λ c. (next_link c).0)
     returns-2)

@@ -20,8 +20,8 @@ use Rattle.splitting.proofs.cells.cell_numbers.Statement.{statement}
 use Rattle.splitting.proofs.cells.cell_numbers.Tie as tie
 
 -- four runs of stores behind each other
-four-stores : (l xs ys zs : List ℕ) (d p q r : ℕ) → length xs ≡ p → p + length ys ≡ q → q + length zs ≡ r → set (sets (sets (sets l 0 xs) p ys) q zs) r d ≡ sets l 0 (xs ++ (ys ++ (zs ++ (d ∷ []))))
-four-stores l xs ys zs d p q r e f g =
+four_stores : (l xs ys zs : List ℕ) (d p q r : ℕ) → length xs ≡ p → p + length ys ≡ q → q + length zs ≡ r → set (sets (sets (sets l 0 xs) p ys) q zs) r d ≡ sets l 0 (xs ++ (ys ++ (zs ++ (d ∷ []))))
+four_stores l xs ys zs d p q r e f g =
     rw (← g, ← f, ← e)
     (sym (sets_append l 0 xs (ys ++ (zs ++ (d ∷ [])))
     ∙ rw (zero-add (length xs))
@@ -35,21 +35,21 @@ edges_are a = rw a.requires.1.0 (edge_keys_lem a.args.kind a.args.cell.now)
 faces_are : (a : tie.Start) → listed_keys 4 a.args.face_places.now a.args.cell.now ≡ part_keys (faces_of a.args.kind) a.args.cell.now
 faces_are a = rw a.requires.1.1.0 (face_keys_lem a.args.kind a.args.cell.now)
 
-edges-in : (a : tie.Start) → length a.args.edge_places.now / 2 ≡ length (places_of (edges_of a.args.kind))
-edges-in a = rw a.requires.1.0 (edge_count a.args.kind)
+edge_places_counted : (a : tie.Start) → length a.args.edge_places.now / 2 ≡ length (places_of (edges_of a.args.kind))
+edge_places_counted a = rw a.requires.1.0 (edge_count a.args.kind)
 
-faces-in : (a : tie.Start) → length a.args.face_places.now / 4 ≡ length (places_of (faces_of a.args.kind))
-faces-in a = rw a.requires.1.1.0 (face_count a.args.kind)
+face_places_counted : (a : tie.Start) → length a.args.face_places.now / 4 ≡ length (places_of (faces_of a.args.kind))
+face_places_counted a = rw a.requires.1.1.0 (face_count a.args.kind)
 
-edges-within : (a : tie.Start) → Within (length a.args.cell.now) a.args.edge_places.now
-edges-within a = rw (a.requires.1.0, a.requires.1.1.1.0) (edge_within a.args.kind)
+edges_within : (a : tie.Start) → Within (length a.args.cell.now) a.args.edge_places.now
+edges_within a = rw (a.requires.1.0, a.requires.1.1.1.0) (edge_within a.args.kind)
 
-faces-within : (a : tie.Start) → Within (length a.args.cell.now) a.args.face_places.now
-faces-within a = rw (a.requires.1.1.0, a.requires.1.1.1.0) (face_within a.args.kind)
+faces_within : (a : tie.Start) → Within (length a.args.cell.now) a.args.face_places.now
+faces_within a = rw (a.requires.1.1.0, a.requires.1.1.1.0) (face_within a.args.kind)
 
 -- the numbers are few, and have their places
 small : (a : tie.Start) → length a.args.cell.now + length a.args.edge_places.now / 2 + length a.args.face_places.now / 4 + 1 ≤ 27
-small a = omega (arith, numbers_fit a.args.kind, a.requires.1.1.1.0, edges-in a, faces-in a)
+small a = omega (arith, numbers_fit a.args.kind, a.requires.1.1.1.0, edge_places_counted a, face_places_counted a)
 
 fits : (a : tie.Start) → length a.args.cell.now + length a.args.edge_places.now / 2 + length a.args.face_places.now / 4 + 1 ≤ length a.args.numbers.now
 fits a = omega (arith, small a, a.requires.1.1.1.1.1.1)
@@ -65,7 +65,7 @@ long c = c.number_faces-faces.auto.numbers ∙ c.number_edges-edges.auto.numbers
 number-edges-requires : tie.Need-number_edges-edges-requires
 number-edges-requires c κs =
     let r = c.requires.0 in
-    (r.edge_table, (rw (edges_are c.before.before.before.before.before.before.before.before.before.before.before) r.edges_fit, (edges-within c.before.before.before.before.before.before.before.before.before.before.before, (omega (arith, c.requires.1.1.1.1.0), omega (arith, fits c.before.before.before.before.before.before.before.before.before.before.before, c.copy_u32.auto.dst)))))
+    (r.edge_table, (rw (edges_are c.before.before.before.before.before.before.before.before.before.before.before) r.edges_fit, (edges_within c.before.before.before.before.before.before.before.before.before.before.before, (omega (arith, c.requires.1.1.1.1.0), omega (arith, fits c.before.before.before.before.before.before.before.before.before.before.before, c.copy_u32.auto.dst)))))
 
 number-faces-requires : tie.Need-number_faces-faces-requires
 number-faces-requires c κs =
@@ -73,7 +73,7 @@ number-faces-requires c κs =
     let e = c.number_edges-edges in (
       omega (arith, inside c.before.before.before.before.before.before.before.before.before.before.before.before.before.before.before.before.before.before, e.auto.w),
       rw (e.ensures.1, faces_are c.before.before.before.before.before.before.before.before.before.before.before.before.before.before.before.before.before.before)
-          (r.face_table, (r.faces_fit, (faces-within c.before.before.before.before.before.before.before.before.before.before.before.before.before.before.before.before.before.before, (c.requires.1.1.1.1.0, omega (arith, fits c.before.before.before.before.before.before.before.before.before.before.before.before.before.before.before.before.before.before, e.auto.numbers, c.copy_u32.auto.dst))))),
+          (r.face_table, (r.faces_fit, (faces_within c.before.before.before.before.before.before.before.before.before.before.before.before.before.before.before.before.before.before, (c.requires.1.1.1.1.0, omega (arith, fits c.before.before.before.before.before.before.before.before.before.before.before.before.before.before.before.before.before.before, e.auto.numbers, c.copy_u32.auto.dst))))),
     )
 
 returns : tie.Need-returns
@@ -87,14 +87,14 @@ returns c =
       λ es fs.
           let ds = numbers_in x.base.vertices (part_keys (edges_of x.kind) cell) (meet_all (edges_in x.base x.w.now x.n) (part_keys (edges_of x.kind) cell ++ es)) in
           let gs = numbers_in (x.base.vertices + x.base.edges) (part_keys (faces_of x.kind) cell) (meet_all (faces_in x.base x.w.now x.n) (part_keys (faces_of x.kind) cell ++ fs)) in
-          let m : length ds ≡ length x.edge_places.now / 2 = length-map (part_keys (edges_of x.kind) cell) _ ∙ length_part_keys (edges_of x.kind) cell ∙ sym (edges-in c.before.before.before.before.before.before.before.before.before.before.before.before.before.before.before.before.before.before.before.before.before.before.before) in
-          let n : length gs ≡ length x.face_places.now / 4 = length-map (part_keys (faces_of x.kind) cell) _ ∙ length_part_keys (faces_of x.kind) cell ∙ sym (faces-in c.before.before.before.before.before.before.before.before.before.before.before.before.before.before.before.before.before.before.before.before.before.before.before) in
+          let m : length ds ≡ length x.edge_places.now / 2 = length-map (part_keys (edges_of x.kind) cell) _ ∙ length_part_keys (edges_of x.kind) cell ∙ sym (edge_places_counted c.before.before.before.before.before.before.before.before.before.before.before.before.before.before.before.before.before.before.before.before.before.before.before) in
+          let n : length gs ≡ length x.face_places.now / 4 = length-map (part_keys (faces_of x.kind) cell) _ ∙ length_part_keys (faces_of x.kind) cell ∙ sym (face_places_counted c.before.before.before.before.before.before.before.before.before.before.before.before.before.before.before.before.before.before.before.before.before.before.before) in
           let q = length cell + length x.edge_places.now / 2 in
           let r = q + length x.face_places.now / 4 in
           let u : length (cell ++ (ds ++ (gs ++ (x.own ∷ [])))) ≤ length x.numbers.now = simp length-append (omega (arith, fits c.before.before.before.before.before.before.before.before.before.before.before.before.before.before.before.before.before.before.before.before.before.before.before)) in
           let h = c.copy_u32.ensures ∙ sym (sets_front x.numbers.now cell (omega (arith, fits c.before.before.before.before.before.before.before.before.before.before.before.before.before.before.before.before.before.before.before.before.before.before.before))) in
           ap (λ (l : List ℕ). set l r x.own) (f.0.numbers_are fs ∙ ap (λ (l : List ℕ). sets l q gs) (e.0.numbers_are es ∙ ap (λ (l : List ℕ). sets l (length cell) ds) h))
-          ∙ four-stores x.numbers.now cell ds gs x.own (length cell) q r refl (omega arith) (omega arith)
+          ∙ four_stores x.numbers.now cell ds gs x.own (length cell) q r refl (omega arith) (omega arith)
           ∙ sets_front x.numbers.now (cell ++ (ds ++ (gs ++ (x.own ∷ [])))) u,
     )
 

@@ -37,10 +37,10 @@ read-field-requires : tie.Need-read_field-f-requires
 read-field-requires c κs = omega (arith, (body c.before.before.before.before).numbers, c.if-s-at.false)
 
 -- the two reads, by their rules
-spare-read : (c : tie.After-read_field-f)
+spare_read : (c : tie.After-read_field-f)
     → let at = c.layout_of-at.result in
     c.read_field-f.result ≡ field_under c.args.s.now at.end (spare_rule at)
-spare-read c = c.read_field-f.ensures
+spare_read c = c.read_field-f.ensures
 
 row_read : (c : tie.After-read_fields-g)
     → let at = c.layout_of-at.result in
@@ -53,7 +53,7 @@ unfolding hand_on
 returns-2 c =
     let told = c.in_default.is in
     c.hand_on.ensures ∙ ap hand_on told
-    ∙ sym (spare_bit (body c.before.before.before.before.before.before.before) c.if-s-at.false (sym (spare-read c.before.before) ∙ told))
+    ∙ sym (spare_bit (body c.before.before.before.before.before.before.before) c.if-s-at.false (sym (spare_read c.before.before) ∙ told))
 
 sub-t11 : tie.Need-overflow_sub-corner
 sub-t11 c = omega (arith, (body c.before.before.before.before.before.before.before).small.range.some)
@@ -68,11 +68,11 @@ unfolding hand_on
 returns-3 c =
     let told = c.in_default-g.is in
     c.hand_on-in_default-g.ensures ∙ ap hand_on told
-    ∙ sym (corner (body c.before.before.before.before.before.before.before.before.before.before) c.if-s-at.false (sym (spare-read c.before.before.before.before.before) ∙ c.in-Value.is) (sym (row_read c.before.before) ∙ told))
+    ∙ sym (corner (body c.before.before.before.before.before.before.before.before.before.before) c.if-s-at.false (sym (spare_read c.before.before.before.before.before) ∙ c.in-Value.is) (sym (row_read c.before.before) ∙ told))
 
 returns-4 : tie.Need-returns
 returns-4 c =
-    sym (body_passed (body c.before.before.before.before.before.before.before.before.before) c.if-s-at.false (sym (spare-read c.before.before.before.before) ∙ c.in-Value.is) (sym (row_read c.before) ∙ c.in-Value-g.is))
+    sym (body_passed (body c.before.before.before.before.before.before.before.before.before) c.if-s-at.false (sym (spare_read c.before.before.before.before) ∙ c.in-Value.is) (sym (row_read c.before) ∙ c.in-Value-g.is))
 
 pub check_body_spec : {M : Type 1} → statement M
 check_body_spec =

@@ -9,39 +9,39 @@ use Rattle.stored.proofs.header.read_cell_counts.Tie as tie
 
 -- ---- the read that gave each value, and the entry
 
-abbrev read-hexes : tie.In-Value → tie.After-read_field-f0
-read-hexes c = c.before
+abbrev read_hexes : tie.In-Value → tie.After-read_field-f0
+read_hexes c = c.before
 
-abbrev read-quads : tie.In-Value-f1 → tie.After-read_field-f1
-read-quads c = c.before
+abbrev read_quads : tie.In-Value-f1 → tie.After-read_field-f1
+read_quads c = c.before
 
-abbrev read-segments : tie.In-Value-f2 → tie.After-read_field-f2
-read-segments c = c.before
+abbrev read_segments : tie.In-Value-f2 → tie.After-read_field-f2
+read_segments c = c.before
 
 abbrev start : tie.In-Value → tie.Start
-start c = (read-hexes c).before.before
+start c = (read_hexes c).before.before
 
 -- ---- where each read leaves the cursor
 
-at-quads : (c : tie.In-Value) → c.in-Value.c0.at ≡ 47
-at-quads c = (field_kept (sym (read-hexes c).read_field-f0.ensures ∙ c.in-Value.is)).next ∙ omega (arith, (start c).requires.0)
+at_quads : (c : tie.In-Value) → c.in-Value.c0.at ≡ 47
+at_quads c = (field_kept (sym (read_hexes c).read_field-f0.ensures ∙ c.in-Value.is)).next ∙ omega (arith, (start c).requires.0)
 
-at-segments : (c : tie.In-Value-f1) → c.in-Value-f1.c1.at ≡ 65
-at-segments c =
-    (field_kept (sym (read-quads c).read_field-f1.ensures ∙ c.in-Value-f1.is)).next ∙ omega (arith, at-quads (read-quads c).before)
+at_segments : (c : tie.In-Value-f1) → c.in-Value-f1.c1.at ≡ 65
+at_segments c =
+    (field_kept (sym (read_quads c).read_field-f1.ensures ∙ c.in-Value-f1.is)).next ∙ omega (arith, at_quads (read_quads c).before)
 
-at-points : (c : tie.In-Value-f2) → c.in-Value-f2.c2.at ≡ 83
-at-points c =
-    (field_kept (sym (read-segments c).read_field-f2.ensures ∙ c.in-Value-f2.is)).next ∙ omega (arith, at-segments (read-segments c).before)
+at_points : (c : tie.In-Value-f2) → c.in-Value-f2.c2.at ≡ 83
+at_points c =
+    (field_kept (sym (read_segments c).read_field-f2.ensures ∙ c.in-Value-f2.is)).next ∙ omega (arith, at_segments (read_segments c).before)
 
 read-field-requires-2 : tie.Need-read_field-f1-requires
-read-field-requires-2 c κs = omega (arith, at-quads c, (start c).requires)
+read-field-requires-2 c κs = omega (arith, at_quads c, (start c).requires)
 
 read-field-requires-3 : tie.Need-read_field-f2-requires
-read-field-requires-3 c κs = omega (arith, at-segments c, (start (read-quads c).before).requires)
+read-field-requires-3 c κs = omega (arith, at_segments c, (start (read_quads c).before).requires)
 
 read-field-requires-4 : tie.Need-read_field-f3-requires
-read-field-requires-4 c κs = omega (arith, at-points c, (start (read-quads (read-segments c).before).before).requires)
+read-field-requires-4 c κs = omega (arith, at_points c, (start (read_quads (read_segments c).before).before).requires)
 
 -- ---- the returns
 

@@ -24,21 +24,21 @@ long c = omega arith
 
 -- ---- the reads, by their rules
 
-form-read : (c : tie.After-read_field-f0) → c.read_field-f0.result ≡ field_under c.args.s.now 0 form_rule
-form-read c = c.read_field-f0.ensures
+form_read : (c : tie.After-read_field-f0) → c.read_field-f0.result ≡ field_under c.args.s.now 0 form_rule
+form_read c = c.read_field-f0.ensures
 
 -- the read of the form number before that of the count of vertices
 abbrev first : tie.After-read_field-f1 → tie.After-read_field-f0
 first c = c.before.before
 
-vertices-read : (c : tie.After-read_field-f1) → c.read_field-f1.result ≡ field_under (first c).args.s.now 9 vertex_rule
-vertices-read c = c.read_field-f1.ensures
+vertices_read : (c : tie.After-read_field-f1) → c.read_field-f1.result ≡ field_under (first c).args.s.now 9 vertex_rule
+vertices_read c = c.read_field-f1.ensures
 
 returns-2 : tie.Need-returns-in_default
 unfolding hand_on
 returns-2 c =
     let told = c.in_default.is in
-    c.hand_on.ensures ∙ ap hand_on told ∙ sym (rw (sym (form-read c.before.before) ∙ told))
+    c.hand_on.ensures ∙ ap hand_on told ∙ sym (rw (sym (form_read c.before.before) ∙ told))
     ∙ header_read c.args.s.now (long c.before.before)
 
 returns-3 : tie.Need-returns-in_default-f1
@@ -47,18 +47,18 @@ returns-3 c =
     let told = c.in_default-f1.is in
     let r0 = first c.before.before in
     c.hand_on-in_default-f1.ensures ∙ ap hand_on told
-    ∙ sym (rw (sym (form-read r0) ∙ c.in-Value.is, sym (vertices-read c.before.before) ∙ told))
+    ∙ sym (rw (sym (form_read r0) ∙ c.in-Value.is, sym (vertices_read c.before.before) ∙ told))
     ∙ header_read c.args.s.now (long r0)
 
 read-cell-counts-requires : tie.Need-read_cell_counts-requires
 read-cell-counts-requires c κs =
-    ((field_kept (sym (vertices-read c.before) ∙ c.in-Value-f1.is)).next, long (first c.before))
+    ((field_kept (sym (vertices_read c.before) ∙ c.in-Value-f1.is)).next, long (first c.before))
 
 returns-4 : tie.Need-returns
 returns-4 c =
     let r0 = first c.before.before in
     c.read_cell_counts.ensures
-    ∙ sym (rw (sym (form-read r0) ∙ c.in-Value.is, sym (vertices-read c.before.before) ∙ c.in-Value-f1.is))
+    ∙ sym (rw (sym (form_read r0) ∙ c.in-Value.is, sym (vertices_read c.before.before) ∙ c.in-Value-f1.is))
     ∙ header_read c.args.s.now (long r0)
 
 pub read_counts_spec : {M : Type 1} → statement M

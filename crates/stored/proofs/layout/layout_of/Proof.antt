@@ -51,25 +51,25 @@ mul-corners-3 : tie.Need-overflow_mul-corners-3
 mul-corners-3 c = omega (arith, bounds c.before.before.before.before.before.before.before.before)
 
 -- the last place
-abbrev at-end : (c : tie.After-struct_known-10-1) → tie.After-index_width-width
-at-end c = c.before.before.before.before.before.before.before.before.before
+abbrev at_end : (c : tie.After-struct_known-10-1) → tie.After-index_width-width
+at_end c = c.before.before.before.before.before.before.before.before.before
 
 add-corners : tie.Need-overflow_add-corners
-add-corners c = omega (arith, bounds (at-end c))
+add-corners c = omega (arith, bounds (at_end c))
 
 add-corners-2 : tie.Need-overflow_add-corners-2
-add-corners-2 c = omega (arith, bounds (at-end c))
+add-corners-2 c = omega (arith, bounds (at_end c))
 
 add-corners-3 : tie.Need-overflow_add-corners-3
-add-corners-3 c = omega (arith, bounds (at-end c))
+add-corners-3 c = omega (arith, bounds (at_end c))
 
 add-bytes : tie.Need-overflow_add-bytes
-add-bytes c = omega (arith, bounds (at-end c))
+add-bytes c = omega (arith, bounds (at_end c))
 
 returns : tie.Need-returns
 unfolding index_width layout bytes_for
 returns c =
-    let at = at-end c in
+    let at = at_end c in
     let width = at.index_width-width.ensures in
     let of : ℕ → Header = λ w. record { form = 1; width = w; counts = at.args.c } in
     record {

@@ -26,17 +26,17 @@ known c =
     storable a.s.now a.c c.layout_of-at.result (mesh a.xs.now a.hexes.now a.quads.now a.segments.now a.points.now) c.requires.0 c.requires.1 c.layout_of-at.ensures
 
 -- the layout before each table
-abbrev at-0 : tie.After-get_coordinates → tie.After-layout_of-at
-at-0 c = c.before.before.before
+abbrev at_0 : tie.After-get_coordinates → tie.After-layout_of-at
+at_0 c = c.before.before.before
 
 abbrev at_1 : tie.After-get_table → tie.After-layout_of-at
-at_1 c = at-0 c.before.before.before.before
+at_1 c = at_0 c.before.before.before.before
 
-abbrev at-2 : tie.After-get_table-2 → tie.After-layout_of-at
-at-2 c = at_1 c.before.before.before.before.before
+abbrev at_2 : tie.After-get_table-2 → tie.After-layout_of-at
+at_2 c = at_1 c.before.before.before.before.before
 
-abbrev at-3 : tie.After-get_table-3 → tie.After-layout_of-at
-at-3 c = at-2 c.before.before.before.before.before
+abbrev at_3 : tie.After-get_table-3 → tie.After-layout_of-at
+at_3 c = at_2 c.before.before.before.before.before
 
 get-coordinates-requires : tie.Need-get_coordinates-requires
 get-coordinates-requires c κs =
@@ -45,7 +45,7 @@ get-coordinates-requires c κs =
 
 get-table-requires : tie.Need-get_table-requires
 get-table-requires c κs =
-    let k = known (at-0 c.before.before.before) in
+    let k = known (at_0 c.before.before.before) in
     omega (arith, k.body.numbers, k.body.small.width, k.long, k.room.hexes)
 
 get-table-requires-2 : tie.Need-get_table-requires-2
@@ -55,12 +55,12 @@ get-table-requires-2 c κs =
 
 get-table-requires-3 : tie.Need-get_table-requires-3
 get-table-requires-3 c κs =
-    let k = known (at-2 c.before.before.before.before) in
+    let k = known (at_2 c.before.before.before.before) in
     omega (arith, k.body.numbers, k.body.small.width, k.long, k.room.segments)
 
 get-table-requires-4 : tie.Need-get_table-requires-4
 get-table-requires-4 c κs =
-    let k = known (at-3 c.before.before.before.before) in
+    let k = known (at_3 c.before.before.before.before) in
     omega (arith, k.body.numbers, k.body.small.width, k.long, k.room.points)
 
 returns : tie.Need-returns

@@ -53,84 +53,84 @@ put-header-requires c κs =
 
 -- ---- where each part ends; the buffer keeps its length
 
-abbrev start-0 : tie.After-put_header-at → tie.Start
-start-0 c = c.before.before.before.before.before.before.before
+abbrev start_0 : tie.After-put_header-at → tie.Start
+start_0 c = c.before.before.before.before.before.before.before
 
-abbrev start-1 : tie.After-put_coordinates-at → tie.Start
-start-1 c = start-0 c.before.before.before.before
+abbrev start_1 : tie.After-put_coordinates-at → tie.Start
+start_1 c = start_0 c.before.before.before.before
 
-abbrev start-2 : tie.After-put_table-at → tie.Start
-start-2 c = start-1 c.before.before.before.before
+abbrev start_2 : tie.After-put_table-at → tie.Start
+start_2 c = start_1 c.before.before.before.before
 
-abbrev start-3 : tie.After-put_table-at-2 → tie.Start
-start-3 c = start-2 c.before.before.before.before
+abbrev start_3 : tie.After-put_table-at-2 → tie.Start
+start_3 c = start_2 c.before.before.before.before
 
-abbrev start-4 : tie.After-put_table-at-3 → tie.Start
-start-4 c = start-3 c.before.before.before.before
+abbrev start_4 : tie.After-put_table-at-3 → tie.Start
+start_4 c = start_3 c.before.before.before.before
 
-after-1 : (c : tie.After-put_coordinates-at)
-    → let a = (start-1 c).args in
+after_1 : (c : tie.After-put_coordinates-at)
+    → let a = (start_1 c).args in
     (c.put_coordinates-at.result ≡ 101 + 30 * length a.xs.now) × (length c.put_coordinates-at.new.d ≡ length a.d.now)
-after-1 c =
+after_1 c =
     (omega (arith, c.put_coordinates-at.ensures.0, c.put_header-at.ensures.0), c.put_coordinates-at.auto.d ∙ c.put_header-at.auto.d)
 
-after-2 : (c : tie.After-put_table-at)
-    → let a = (start-2 c).args in
+after_2 : (c : tie.After-put_table-at)
+    → let a = (start_2 c).args in
     (c.put_table-at.result ≡ 101 + 30 * length a.xs.now + a.width * length a.hexes.now) × (length c.put_table-at.new.d ≡ length a.d.now)
-after-2 c =
-    (omega (arith, c.put_table-at.ensures.0, (after-1 c.before.before.before.before).0), c.put_table-at.auto.d ∙ (after-1 c.before.before.before.before).1)
+after_2 c =
+    (omega (arith, c.put_table-at.ensures.0, (after_1 c.before.before.before.before).0), c.put_table-at.auto.d ∙ (after_1 c.before.before.before.before).1)
 
-after-3 : (c : tie.After-put_table-at-2)
-    → let a = (start-3 c).args in
+after_3 : (c : tie.After-put_table-at-2)
+    → let a = (start_3 c).args in
     (c.put_table-at-2.result ≡ 101 + 30 * length a.xs.now + a.width * length a.hexes.now + a.width * length a.quads.now)
     × (length c.put_table-at-2.new.d ≡ length a.d.now)
-after-3 c =
-    (omega (arith, c.put_table-at-2.ensures.0, (after-2 c.before.before.before.before).0), c.put_table-at-2.auto.d ∙ (after-2 c.before.before.before.before).1)
+after_3 c =
+    (omega (arith, c.put_table-at-2.ensures.0, (after_2 c.before.before.before.before).0), c.put_table-at-2.auto.d ∙ (after_2 c.before.before.before.before).1)
 
-after-4 : (c : tie.After-put_table-at-3)
-    → let a = (start-4 c).args in
+after_4 : (c : tie.After-put_table-at-3)
+    → let a = (start_4 c).args in
     (c.put_table-at-3.result ≡ 101 + 30 * length a.xs.now + a.width * length a.hexes.now + a.width * length a.quads.now + a.width * length a.segments.now)
     × (length c.put_table-at-3.new.d ≡ length a.d.now)
-after-4 c =
-    (omega (arith, c.put_table-at-3.ensures.0, (after-3 c.before.before.before.before).0), c.put_table-at-3.auto.d ∙ (after-3 c.before.before.before.before).1)
+after_4 c =
+    (omega (arith, c.put_table-at-3.ensures.0, (after_3 c.before.before.before.before).0), c.put_table-at-3.auto.d ∙ (after_3 c.before.before.before.before).1)
 
 -- ---- the calls
 
 put-coordinates-requires : tie.Need-put_coordinates-at-requires
 put-coordinates-requires c κs =
-    let start = start-0 c.before.before.before in
+    let start = start_0 c.before.before.before in
     ((omega (arith, room start, c.put_header-at.ensures.0, c.put_header-at.auto.d), omega (arith, room start, c.put_header-at.ensures.0)), (fits (whole start) (accepted start)).vertices)
 
 -- a table at bit p of the buffer d
-fits-table : (c : tie.Start) (d t : List ℕ) (p : ℕ) → length d ≡ length c.args.d.now → p + c.args.width * length t ≤ bits_of c.args.width (whole c)
+fits_table : (c : tie.Start) (d t : List ℕ) (p : ℕ) → length d ≡ length c.args.d.now → p + c.args.width * length t ≤ bits_of c.args.width (whole c)
     → Below (index_width (counts_of (whole c))) t
     → ((0 < c.args.width) × (c.args.width ≤ 32) × (p + c.args.width * length t ≤ 8 * length d) × (p + c.args.width * length t ≤ 2 ^ 60))
     × Below c.args.width t
-fits-table c d t p e l h = (((bounds c).some, omega (arith, (bounds c).width), omega (arith, room c), omega (arith, room c)), below c t h)
+fits_table c d t p e l h = (((bounds c).some, omega (arith, (bounds c).width), omega (arith, room c), omega (arith, room c)), below c t h)
 
 put-table-requires : tie.Need-put_table-at-requires
 put-table-requires c κs =
-    let start = start-1 c.before.before.before in
-    fits-table start c.put_coordinates-at.new.d start.args.hexes.now c.put_coordinates-at.result (after-1 c.before.before.before).1 (omega (arith, (after-1 c.before.before.before).0)) (fits (whole start) (accepted start)).hexes
+    let start = start_1 c.before.before.before in
+    fits_table start c.put_coordinates-at.new.d start.args.hexes.now c.put_coordinates-at.result (after_1 c.before.before.before).1 (omega (arith, (after_1 c.before.before.before).0)) (fits (whole start) (accepted start)).hexes
 
 put-table-requires-2 : tie.Need-put_table-at-requires-2
 put-table-requires-2 c κs =
-    let start = start-2 c.before.before.before in
-    fits-table start c.put_table-at.new.d start.args.quads.now c.put_table-at.result (after-2 c.before.before.before).1 (omega (arith, (after-2 c.before.before.before).0)) (fits (whole start) (accepted start)).quads
+    let start = start_2 c.before.before.before in
+    fits_table start c.put_table-at.new.d start.args.quads.now c.put_table-at.result (after_2 c.before.before.before).1 (omega (arith, (after_2 c.before.before.before).0)) (fits (whole start) (accepted start)).quads
 
 put-table-requires-3 : tie.Need-put_table-at-requires-3
 put-table-requires-3 c κs =
-    let start = start-3 c.before.before.before in
-    fits-table start c.put_table-at-2.new.d start.args.segments.now c.put_table-at-2.result (after-3 c.before.before.before).1 (omega (arith, (after-3 c.before.before.before).0)) (fits (whole start) (accepted start)).segments
+    let start = start_3 c.before.before.before in
+    fits_table start c.put_table-at-2.new.d start.args.segments.now c.put_table-at-2.result (after_3 c.before.before.before).1 (omega (arith, (after_3 c.before.before.before).0)) (fits (whole start) (accepted start)).segments
 
 put-table-requires-4 : tie.Need-put_table-requires
 put-table-requires-4 c κs =
-    let start = start-4 c.before.before.before in
-    fits-table start c.put_table-at-3.new.d start.args.points.now c.put_table-at-3.result (after-4 c.before.before.before).1 (omega (arith, (after-4 c.before.before.before).0)) (fits (whole start) (accepted start)).points
+    let start = start_4 c.before.before.before in
+    fits_table start c.put_table-at-3.new.d start.args.points.now c.put_table-at-3.result (after_4 c.before.before.before).1 (omega (arith, (after_4 c.before.before.before).0)) (fits (whole start) (accepted start)).points
 
 returns : tie.Need-returns
 returns c =
-    let start = start-0 c.before.before.before.before.before.before.before.before.before.before.before.before.before.before.before.before.before.before.before.before.before.before in
+    let start = start_0 c.before.before.before.before.before.before.before.before.before.before.before.before.before.before.before.before.before.before.before.before.before.before in
     let a = start.args in
     let m = whole start in
     let d : List ℕ = a.d.now in
