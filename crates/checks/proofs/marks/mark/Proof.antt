@@ -23,7 +23,6 @@ loop-again : tie.Need-loop-i-preserved invariant-loop decreases-loop
 loop-again c =
     let corner = get_or c.args.table.now c.loop-i.i 0 in
     let place = corner - c.args.first in
-    let size = length c.loop-i.w in
     let m = c.loop-i.invariant in
     elim c.if-first-v.branch [
       | then-first-v+then-v-first w ↦ rw w.w-is (mark_hit c.args.table.now c.loop-i.i m c.loop-i-test.true place (omega arith) (omega (arith, w.if-v-first.true, m.kept)))

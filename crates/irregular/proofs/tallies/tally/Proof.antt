@@ -34,9 +34,7 @@ fits c =
 
 loop-again : tie.Need-loop-i-preserved invariant-loop decreases-loop
 loop-again c =
-    let n = c.args.n in
     let at = c.loop-i.invariant in
-    let here = get_or c.loop-i.w (place c.before.before) 0 in
     elim c.if-first-v.branch [
       | then-first-v+then-v-first+then-rank-w w ↦
           rw w.w-is
