@@ -20,7 +20,7 @@ use Rattle.lists.proofs.Each.{each_in, each_concat_map}
 use Rattle.lists.proofs.Keys.{length_key}
 use Rattle.rounding.proofs.Draws.{nat_total, nat_total_append}
 use Rattle.soundness.proofs.CellParts.{placed, smallest_part}
-use Rattle.soundness.proofs.Cells.{whole_below, length_whole}
+use Rattle.soundness.proofs.Cells.{whole_below}
 use Rattle.averaging.specs.Sums.{sum_to}
 use Rattle.averaging.specs.Weights.{child_draws, weight_at, weight_rows}
 use Rattle.averaging.specs.Pass.{weighed}
@@ -28,15 +28,11 @@ use Rattle.averaging.proofs.Sums.{sum_to_same, sum_to_plus, sum_to_single, sum_t
 
 -- ---- the weights by row and column
 
-pub length_rows : (κ : Kind) → length (weight_rows κ) ≡ corners κ
-unfolding weight_rows
-length_rows κ = length-map (whole κ) (λ (i : ℕ). map (weight_at (child_draws κ i)) (up_from 0 8)) ∙ length_whole κ
-
-pub weights_at : (κ : Kind) (i u : ℕ) → i < corners κ → u < 8 → get_or (get_or (weight_rows κ) i []) u 0 ≡ weight_at (child_draws κ i) u
+weights_at : (κ : Kind) (i u : ℕ) → i < corners κ → u < corners κ → get_or (get_or (weight_rows κ) i []) u 0 ≡ weight_at (child_draws κ i) u
 unfolding weight_rows whole
 weights_at κ i u h k =
-    ap (λ (row : List ℕ). get_or row u 0) (get_or_run (λ (i : ℕ). map (weight_at (child_draws κ i)) (up_from 0 8)) [] 0 (corners κ) i h)
-    ∙ get_or_run (weight_at (child_draws κ (0 + i))) 0 0 8 u k
+    ap (λ (row : List ℕ). get_or row u 0) (get_or_run (λ (i : ℕ). map (weight_at (child_draws κ i)) (up_from 0 (corners κ))) [] 0 (corners κ) i h)
+    ∙ get_or_run (weight_at (child_draws κ (0 + i))) 0 0 (corners κ) u k
     ∙ ap₂ (λ (i u : ℕ). weight_at (child_draws κ i) u) (zero-add i) (zero-add u)
 
 -- ---- draws collected by place
@@ -137,8 +133,7 @@ pub child_total : (κ : Kind) (e at : ℕ → ℕ) (numbered : List Key) (cell :
 unfolding child_draws weighed
 child_total κ e at numbered cell number i h numbers placed_at =
     let inside = draws_inside κ i h in
-    let most = corners_most κ in
     corners_total e numbered cell number (smallest κ i) (whole κ) numbers
     ∙ total_same (corners κ) (λ (q : ℕ). e (get_or cell q 0)) at (child_draws κ i) inside placed_at
     ∙ collected (corners κ) at (child_draws κ i) inside
-    ∙ sum_to_same (corners κ) (λ (u : ℕ). weight_at (child_draws κ i) u * at u) (λ (u : ℕ). get_or (get_or (weight_rows κ) i []) u 0 * at u) (λ u l. ap (λ (w : ℕ). w * at u) (sym (weights_at κ i u (whole_below κ i h) (omega arith))))
+    ∙ sum_to_same (corners κ) (λ (u : ℕ). weight_at (child_draws κ i) u * at u) (λ (u : ℕ). get_or (get_or (weight_rows κ) i []) u 0 * at u) (λ u l. ap (λ (w : ℕ). w * at u) (sym (weights_at κ i u (whole_below κ i h) l)))

@@ -1,12 +1,9 @@
 -- Steps over the elements of a list, one after another. Assumes nothing.
-use mathlib.Core.Path.{◌≡◌, refl, sym, ap, ◌∙◌}
+use mathlib.Core.Path.{◌≡◌, refl, ap, ◌∙◌}
 use mathlib.Core.List.{List, [], ◌∷◌, ◌++◌}
-use Prim.Native.Nat.{ℕ, zero, suc, ◌+◌, ◌*◌, ◌/◌, ◌<◌}
-use native.Mathlib.Omega.{arith}
+use Prim.Native.Nat.{ℕ, zero, suc}
 use lib.ListN.{length, get_or}
-use Rattle.rules.specs.Lists.{concat, concat_map}
-use Rattle.lists.specs.Membership.{In}
-use Rattle.lists.proofs.Tables.{length_cut, cut_concat, cut_at}
+use Rattle.rules.specs.Lists.{concat_map}
 use Rattle.averaging.specs.Tally.{Tally, repeat}
 
 module _ {A : Type 0} where
@@ -34,12 +31,3 @@ pub fold_places : {A : Type 0} (step : A → ℕ → Tally → Tally) (xs : List
 unfolding repeat
 fold_places step [] d f t = refl
 fold_places step (x ∷ xs) d f t = repeat_first (length xs) (λ (i : ℕ). step (get_or (x ∷ xs) i d)) f t ∙ fold_places step xs d f (step x f t)
-
--- ---- joined lists of k elements each, by places
-
-module _ {A : Type 0} (k : ℕ) (cs : List (List A)) (some : 0 < k) (sized : (c : List A) → In c cs → length c ≡ k) where
-  pub concat_at : (c j : ℕ) (z : A) → c < length cs → j < k → get_or (concat cs) (k * c + j) z ≡ get_or (get_or cs c []) j z
-  concat_at c j z h l =
-      let whole = cut_concat k cs some sized in
-      let count : length cs ≡ length (concat cs) / k = ap length (sym whole) ∙ length_cut k (concat cs) in
-      sym (cut_at k c j (concat cs) [] z (omega (arith, count)) l) ∙ ap (λ (cs : List (List A)). get_or (get_or cs c []) j z) whole

@@ -3,12 +3,14 @@
 pub mod Sums
 -- Biased: a coordinate with 2 ^ 29 added.
 pub mod Biased
--- Triples: three elements stored at 3 f, 3 f + 1, 3 f + 2.
-pub mod Triples
+-- Chunks: the entries of a table are its chunks.
+pub mod Chunks
 -- Stores: what the stores of a vertex's numbers make of its tally.
 pub mod Stores
 -- Steps: laws of steps over tallies, and that the tallies fit.
 pub mod Steps
+-- Triples: three elements stored at 3 f, 3 f + 1, 3 f + 2.
+pub mod Triples
 -- Folds: steps over the elements of a list.
 pub mod Folds
 -- ChildSums: the sum over a child's corners is that by the weights.
@@ -21,3 +23,5 @@ pub mod Children
 pub mod Tables
 -- Round: the tallies that the four passes leave, divided, are the coordinates after the round.
 pub mod Round
+-- Rows: the tables of weights are those of the rules.
+pub mod Rows

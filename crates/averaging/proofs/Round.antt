@@ -26,32 +26,33 @@ use Rattle.accuracy.proofs.Axes.{axis_at, axis_averaged}
 use Rattle.accuracy.proofs.Counted.{ranked, rank_below, valence_below, counted_some}
 use Rattle.accuracy.proofs.Means.{mean_is, means_good}
 use Rattle.accuracy.proofs.Range.{all_in_range}
+use Rattle.averaging.specs.declared.tallies.Tallies.{Tallies}
 use Rattle.averaging.specs.Tally.{Tally, tally_at, Tallied}
 use Rattle.averaging.specs.Pass.{biased, divisor_of, Complete, MeanOf}
 use Rattle.averaging.specs.Ready.{Ready}
 use Rattle.averaging.proofs.Biased.{biased_is, biased_below}
 use Rattle.averaging.proofs.Passed.{tally_of, passed_all}
 use Rattle.averaging.proofs.Children.{value}
-use Rattle.averaging.proofs.Tables.{Cleared, cleared, kind_step}
+use Rattle.averaging.proofs.Tables.{Cleared, kind_step}
 
 module _ {m fine : Mesh} {count words longs out : ℕ} (r : Ready m fine count words longs out) where
   -- ---- the four passes
 
-  pub counted_tally : {w l w₀ l₀ w₁ l₁ w₂ l₂ w₃ l₃ w₄ l₄ : List ℕ} → Cleared count w l w₀ l₀
-      → {k₁ k₂ k₃ k₄ : ℕ} → Tallied k₁ (kind_step r point) w₀ l₀ w₁ l₁ → Tallied k₂ (kind_step r segment) w₁ l₁ w₂ l₂ → Tallied k₃ (kind_step r quad) w₂ l₂ w₃ l₃ → Tallied k₄ (kind_step r hex) w₃ l₃ w₄ l₄
-      → (a f : ℕ) → a < 3 → f < count → tally_at w₄ l₄ a f ≡ tally_of (value m a) (counted (split (topology m)) f)
+  pub counted_tally : {t₀ t₁ t₂ t₃ t₄ : Tallies} → Cleared count t₀
+      → {k₁ k₂ k₃ k₄ : ℕ} → Tallied k₁ (kind_step r point) t₀ t₁ → Tallied k₂ (kind_step r segment) t₁ t₂ → Tallied k₃ (kind_step r quad) t₂ t₃ → Tallied k₄ (kind_step r hex) t₃ t₄
+      → (a f : ℕ) → a < 3 → f < count → tally_at t₄ a f ≡ tally_of (value m a) (counted (split (topology m)) f)
   counted_tally start p s q h a f k i =
-      h.changed.each a f k
-      ∙ ap (kind_step r hex a f) (q.changed.each a f k
-      ∙ ap (kind_step r quad a f) (s.changed.each a f k
-      ∙ ap (kind_step r segment a f) (p.changed.each a f k ∙ ap (kind_step r point a f) (cleared start a f k i))))
+      h.each a f k
+      ∙ ap (kind_step r hex a f) (q.each a f k
+      ∙ ap (kind_step r quad a f) (s.each a f k
+      ∙ ap (kind_step r segment a f) (p.each a f k ∙ ap (kind_step r point a f) (start a f k i))))
       ∙ passed_all (value m a) f (split (topology m))
 
   -- ---- one fine vertex, on one axis
 
   module _ (a f : ℕ) (h : a < 3) (l : f < count) where
     abbrev at : ℕ → ℕ
-    at u = biased m.vertices (3 * u + a)
+    at u = biased (get_or m.vertices (3 * u + a) (pos 0))
 
     abbrev mean : Mean
     mean = mean_at (parts (topology m)) (split (topology m)) f
@@ -73,11 +74,9 @@ module _ {m fine : Mesh} {count words longs out : ℕ} (r : Ready m fine count w
     in_range_lem u k = (all_in_range m).0 r.near (3 * u + a) (omega arith)
 
     at_is : (u : ℕ) → u < (topology m).vertex_count → pos (at u) ≡ get_or m.vertices (3 * u + a) (pos 0) +ℤ pos (2 ^ 29)
-    unfolding biased
     at_is u k = biased_is (get_or m.vertices (3 * u + a) (pos 0)) (in_range_lem u k)
 
     at_below : (u : ℕ) → u < (topology m).vertex_count → at u < 2 ^ 30
-    unfolding biased
     at_below u k = biased_below (get_or m.vertices (3 * u + a) (pos 0)) (in_range_lem u k)
 
     sum_is : left.sum ≡ nat_total mean.draws at

@@ -1,29 +1,13 @@
--- Loops that store something for each of 0, 1, ..; and three elements stored at 3 f, 3 f + 1 and 3 f + 2. Assumes nothing.
+-- Three elements stored at 3 f, 3 f + 1 and 3 f + 2. Assumes nothing.
 use mathlib.Core.Path.{◌≡◌, refl, sym, ◌∙◌, ap, subst}
-use mathlib.Core.Bool.{Bool, true, false, cond}
+use mathlib.Core.Bool.{Bool, true, false}
 use mathlib.Core.List.{List, [], ◌∷◌}
-use Prim.Native.Nat.{ℕ, zero, suc, ◌+◌, ◌*◌, ◌≤◌, ◌<◌}
+use Prim.Native.Nat.{ℕ, zero, suc, ◌+◌, ◌*◌, ◌<◌}
 use native.Mathlib.Omega.{arith}
 use lib.ListN.{length, get_or, set, length-set}
 use lib.Seq.{get_or-set_same, get_or-set_other}
-use lib.Dec.{eqb, ltb}
-use borrow.Author.Tests.{eqb-true, eqb-false, ltb-true, ltb-false, lt-ltb, le-ltb}
-
--- B v stands at each v below u: before the first turn, and after one more
-module _ {A : Type 0} (B : ℕ → A) (d : A) where
-  pub none_below : (v : ℕ) → d ≡ cond (ltb v 0) (B v) d
-  none_below v = rw (le-ltb v 0 (omega arith))
-
-  pub more_below : (u v : ℕ) → cond (eqb v u) (B u) (cond (ltb v u) (B v) d) ≡ cond (ltb v (u + 1)) (B v) d
-  more_below u v = go (eqb v u) refl (ltb v u) refl
-    where
-      above : (v u : ℕ) → u ≤ v → (v ≡ u → ⊥) → u + 1 ≤ v
-      above v u h n = omega arith
-
-      go : (b : Bool) → eqb v u ≡ b → (l : Bool) → ltb v u ≡ l → cond b (B u) (cond l (B v) d) ≡ cond (ltb v (u + 1)) (B v) d
-      go true e l f = let p : v ≡ u = eqb-true v u e in rw (lt-ltb v (u + 1) (omega arith), p)
-      go false e true f = rw (lt-ltb v (u + 1) (omega (arith, ltb-true v u f)))
-      go false e false f = rw (le-ltb v (u + 1) (above v u (ltb-false v u f) (eqb-false v u e)))
+use lib.Dec.{eqb}
+use borrow.Author.Tests.{eqb-true, eqb-false}
 
 -- one place more: what holds of it, and of those before it, which are unchanged
 pub one_more : {A : Type 0} (P : ℕ → A → Type 0) (f : ℕ) (new old : ℕ → A) → ((g : ℕ) → g < f → P g (old g)) → P f (new f) → ((g : ℕ) → (g ≡ f → ⊥) → new g ≡ old g) → (g : ℕ) → g < f + 1 → P g (new g)
@@ -44,23 +28,8 @@ module _ {A : Type 0} (d : A) where
   on_axes P x y z p q r (suc (suc zero)) h = r
   on_axes P x y z p q r (suc (suc (suc a))) h = absurd (omega arith)
 
-  -- what holds of each element holds after a store
-  set_each : (P : A → Type 0) (l : List A) (i : ℕ) (x : A) → ((q : ℕ) → P (get_or l q d)) → P x → (q : ℕ) → P (get_or (set l i x) q d)
-  set_each P [] i x h p q = h q
-  set_each P (y ∷ l) zero x h p zero = p
-  set_each P (y ∷ l) zero x h p (suc q) = h (suc q)
-  set_each P (y ∷ l) (suc i) x h p zero = h 0
-  set_each P (y ∷ l) (suc i) x h p (suc q) = set_each P l i x (λ q. h (suc q)) p q
-
   abbrev pub triple : List A → ℕ → A → A → A → List A
   triple l f x y z = set (set (set l (3 * f) x) (3 * f + 1) y) (3 * f + 2) z
-
-  pub triple_length : (l : List A) (f : ℕ) (x y z : A) → length (triple l f x y z) ≡ length l
-  triple_length l f x y z = simp length-set
-
-  pub triple_all : (P : A → Type 0) (l : List A) (f : ℕ) (x y z : A) → ((q : ℕ) → P (get_or l q d)) → P x → P y → P z → (q : ℕ) → P (get_or (triple l f x y z) q d)
-  triple_all P l f x y z h p q r =
-      set_each P (set (set l (3 * f) x) (3 * f + 1) y) (3 * f + 2) z (set_each P (set l (3 * f) x) (3 * f + 1) y (set_each P l (3 * f) x h p) q) r
 
   -- the places of the other vertices are as they were
   pub triple_other : (l : List A) (f : ℕ) (x y z : A) (g a : ℕ) → a < 3 → (g ≡ f → ⊥) → get_or (triple l f x y z) (3 * g + a) d ≡ get_or l (3 * g + a) d
@@ -83,3 +52,10 @@ module _ {A : Type 0} (d : A) where
       ∙ get_or-set_same (set l (3 * f) x) (3 * f + 1) y d (simp length-set (omega arith))
   triple_at l f x y z (suc (suc zero)) h k = get_or-set_same (set (set l (3 * f) x) (3 * f + 1) y) (3 * f + 2) z d (simp length-set (omega arith))
   triple_at l f x y z (suc (suc (suc a))) h k = absurd (omega arith)
+
+  -- one vertex more: what holds of its three elements, and of those before it
+  pub triple_more : (P : ℕ → ℕ → A → Type 0) (l : List A) (f : ℕ) (x y z : A) → 3 * f + 2 < length l → ((a g : ℕ) → a < 3 → g < f → P a g (get_or l (3 * g + a) d)) → P 0 f x → P 1 f y → P 2 f z
+      → (a g : ℕ) → a < 3 → g < f + 1 → P a g (get_or (triple l f x y z) (3 * g + a) d)
+  triple_more P l f x y z fits below p q r a g h =
+      one_more (P a) f (λ (g : ℕ). get_or (triple l f x y z) (3 * g + a) d) (λ (g : ℕ). get_or l (3 * g + a) d) (λ g k. below a g h k)
+      (subst (P a f) (sym (triple_at l f x y z a fits h)) (on_axes (λ (a : ℕ) (x : A). P a f x) x y z p q r a h)) (λ g n. triple_other l f x y z g a h n) g

@@ -1,60 +1,57 @@
 -- Words of inner contracts: the pass over a table of cells. Each child counts for its corners, with the sum of their split positions.
-use Rattle.std.specs.Prelude.{◌≡◌, List, [], ℕ, ◌+◌, ◌*◌, ◌/◌, ◌≤◌, ◌<◌, ◌^◌, length, get_or, ℤ, pos, ◌+ℤ◌, nat_abs}
+use Rattle.std.specs.Prelude.{◌≡◌, List, [], ℕ, ◌*◌, ◌/◌, ◌≤◌, ◌<◌, ◌^◌, length, get_or, ℤ, pos, ◌+ℤ◌, nat_abs}
 use Rattle.integers.specs.Range.{InRange}
 use Rattle.averaging.specs.Sums.{sum_to}
-use Rattle.averaging.specs.Tally.{Tally, tally_at, repeat, corner_step, Room}
+use Rattle.averaging.specs.Tally.{Tally, repeat, corner_step}
 
 -- a coordinate counted from the least one, so that it is not negative
-unfoldable pub biased : List ℤ → ℕ → ℕ
-biased xs p = nat_abs (get_or xs p (pos 0) +ℤ pos (2 ^ 29))
+abbrev pub biased : ℤ → ℕ
+biased z = nat_abs (z +ℤ pos (2 ^ 29))
 
--- coordinates of several corners, three for each: on axis a of corner u
-abbrev pub gathered_at : List ℕ → ℕ → ℕ → ℕ
-gathered_at gathered a u = get_or gathered (3 * u + a) 0
+-- the biased coordinate on axis a of corner u of a cell, from the three coordinates of each vertex
+unfoldable pub corner_coordinate : List (List ℤ) → List ℕ → ℕ → ℕ → ℕ
+corner_coordinate vertices cell a u = biased (get_or (get_or vertices (get_or cell u 0) []) a (pos 0))
 
--- the biased coordinate on axis a of corner u of the cell whose corners stand from `at` on
-unfoldable pub corner_coordinate : List ℕ → ℕ → List ℤ → ℕ → ℕ → ℕ
-corner_coordinate corners at xs a u = biased xs (3 * get_or corners (at + u) 0 + a)
+-- the coordinates of several corners, three for each: on axis a of corner u
+abbrev pub gathered_at : List (List ℕ) → ℕ → ℕ → ℕ
+gathered_at gathered a u = get_or (get_or gathered u []) a 0
 
 -- The split positions of all corners of a child, summed, in eighths: each of the parent's n corners u, at e u, has a weight.
 unfoldable pub weighed : ℕ → List ℕ → (ℕ → ℕ) → ℕ
 weighed n row e = sum_to n (λ (u : ℕ). get_or row u 0 * e u)
 
--- a child of dimension d with n corners from `at` on, which sum to s
-unfoldable pub child_step : ℕ → List ℕ → ℕ → ℕ → ℕ → ℕ → Tally → Tally
-child_step n fine at d s = repeat n (λ (j : ℕ). corner_step d s (get_or fine (at + j) 0))
+-- a child of dimension d with n corners, which sum to s
+unfoldable pub child_step : ℕ → ℕ → ℕ → List ℕ → ℕ → Tally → Tally
+child_step n d s child = repeat n (λ (j : ℕ). corner_step d s (get_or child j 0))
 
 -- the n children of a cell whose corners are at e
-unfoldable pub cell_step : ℕ → List (List ℕ) → (ℕ → ℕ) → List ℕ → ℕ → ℕ → ℕ → Tally → Tally
-cell_step n weights e fine base d = repeat n (λ (i : ℕ). child_step n fine (base + n * i) d (weighed n (get_or weights i []) e))
+unfoldable pub cell_step : ℕ → ℕ → List (List ℕ) → (ℕ → ℕ) → List (List ℕ) → ℕ → Tally → Tally
+cell_step n d weights e children = repeat n (λ (i : ℕ). child_step n d (weighed n (get_or weights i []) e) (get_or children i []))
 
--- how many cells of n corners stand in a table, and how many corners their children have
+-- how many cells of n corners stand in a table
 abbrev pub cell_count : ℕ → List ℕ → ℕ
 cell_count n corners = length corners / n
 
-abbrev pub corner_count : ℕ → List ℕ → ℕ
-corner_count n corners = n * n * cell_count n corners
-
--- the cells of a table, on axis a
-unfoldable pub table_step : ℕ → List (List ℕ) → List ℕ → List ℤ → List ℕ → ℕ → ℕ → ℕ → Tally → Tally
-table_step n weights corners xs fine d a =
-    repeat (cell_count n corners) (λ (c : ℕ). cell_step n weights (corner_coordinate corners (n * c) xs a) fine (n * n * c) d)
+-- the cells of a table with their children, on axis a
+unfoldable pub table_step : ℕ → ℕ → List (List ℕ) → List (List ℤ) → List (List ℕ) → List (List (List ℕ)) → ℕ → ℕ → Tally → Tally
+table_step n d weights vertices cells families a =
+    repeat (length cells) (λ (c : ℕ). cell_step n d weights (corner_coordinate vertices (get_or cells c []) a) (get_or families c []))
 
 -- ---- what the pass needs of its tables
 
--- the corners of k cells of n corners are vertices, and coordinates are in range
-pub record Coarse (n k : ℕ) (corners : List ℕ) (xs : List ℤ) : Type 0 where
-  pub few : n ≤ 8
-  pub whole : n * k ≤ length corners
-  pub known : (p : ℕ) → p < n * k → 3 * get_or corners p 0 + 2 < length xs
-  pub range : (p : ℕ) → p < length xs → InRange (get_or xs p (pos 0))
+-- each corner is one of the first n vertices
+abbrev pub Known : ℕ → List ℕ → Type 0
+Known n corners = (u : ℕ) → u < length corners → get_or corners u 0 < n
 
--- the places from `at` on of a fine table, k of them, name vertices that are tallied, with room for m more cells
-pub record Fine (at k m : ℕ) (fine words longs : List ℕ) : Type 0 where
-  pub whole : at + k ≤ length fine
-  pub ranked : (p : ℕ) → at ≤ p → p < at + k → 2 * get_or fine p 0 + 1 < length words
-  pub summed : (p : ℕ) → at ≤ p → p < at + k → 3 * get_or fine p 0 + 2 < length longs
-  pub room : (p a : ℕ) → at ≤ p → p < at + k → a < 3 → Room m (tally_at words longs a (get_or fine p 0))
+-- all coordinates are in range
+abbrev pub Near : List (List ℤ) → Type 0
+Near vertices = (v a : ℕ) → v < length vertices → a < 3 → InRange (get_or (get_or vertices v []) a (pos 0))
+
+-- cells with their n children each: the corners of the cells are among `coarse` vertices, those of the children among `fine`
+pub record Families (n coarse fine : ℕ) (cells : List (List ℕ)) (families : List (List (List ℕ))) : Type 0 where
+  pub all : length families ≡ length cells
+  pub old : (c : ℕ) → c < length cells → Known coarse (get_or cells c [])
+  pub new : (c i : ℕ) → c < length cells → i < n → Known fine (get_or (get_or families c []) i [])
 
 -- ---- the means
 

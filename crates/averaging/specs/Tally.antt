@@ -1,6 +1,7 @@
 -- Words of inner contracts: what is kept for each fine vertex while the cells are passed, in rising dimension. It is the rank, the valence
 -- and, for each axis, the sum of the split positions of all corners of the counted cells.
-use Rattle.std.specs.Prelude.{◌≡◌, cond, List, ℕ, zero, suc, ◌+◌, ◌*◌, ◌≤◌, ◌<◌, ◌^◌, length, get_or, leb, eqb}
+use Rattle.std.specs.Prelude.{◌≡◌, cond, [], ℕ, zero, suc, ◌+◌, ◌*◌, ◌≤◌, ◌<◌, ◌^◌, length, get_or, leb, eqb}
+use Rattle.averaging.specs.declared.tallies.Tallies.{Tallies}
 
 -- on one axis
 pub record Tally : Type 0 where
@@ -8,9 +9,9 @@ pub record Tally : Type 0 where
   pub valence : ℕ
   pub sum : ℕ
 
--- the tally of vertex f on axis a, from the working numbers
-abbrev pub tally_at : List ℕ → List ℕ → ℕ → ℕ → Tally
-tally_at words longs a f = record { rank = get_or words (2 * f) 0; valence = get_or words (2 * f + 1) 0; sum = get_or longs (3 * f + a) 0 }
+-- the tally of vertex f on axis a
+abbrev pub tally_at : Tallies → ℕ → ℕ → Tally
+tally_at t a f = record { rank = get_or (get_or t.ranks.now f []) 0 0; valence = get_or (get_or t.ranks.now f []) 1 0; sum = get_or (get_or t.totals.now f []) a 0 }
 
 -- before any cell: the rank is the highest, that of a hex
 abbrev pub nothing : Tally
@@ -32,12 +33,6 @@ repeat (suc n) step f t = step n f (repeat n step f t)
 unfoldable pub corner_step : ℕ → ℕ → ℕ → ℕ → Tally → Tally
 corner_step d s g f t = cond (eqb f g) (counting d s t) t
 
--- Words and longs were changed by a step on each axis, and no length was.
-pub record Changed (step : ℕ → ℕ → Tally → Tally) (words longs words' longs' : List ℕ) : Type 0 where
-  pub words_kept : length words' ≡ length words
-  pub longs_kept : length longs' ≡ length longs
-  pub each : (a f : ℕ) → a < 3 → tally_at words' longs' a f ≡ step a f (tally_at words longs a f)
-
 -- ---- room
 
 -- k more cells can be counted: a cell adds less than 2 ^ 41 to a sum, and 2 ^ 22 cells less than 2 ^ 63
@@ -45,11 +40,18 @@ pub record Room (k : ℕ) (t : Tally) : Type 0 where
   pub few : t.valence + k ≤ 2 ^ 22
   pub small : t.sum ≤ t.valence * 2 ^ 41
 
+-- k more cells can be counted for each vertex
+pub record Spare (k : ℕ) (t : Tallies) : Type 0 where
+  pub same : length t.totals.now ≡ length t.ranks.now
+  pub room : (a f : ℕ) → a < 3 → f < length t.ranks.now → Room k (tally_at t a f)
+
 -- a step counts at most k cells
 abbrev pub Within : ℕ → (Tally → Tally) → Type 0
 Within k step = (m : ℕ) (t : Tally) → Room (k + m) t → Room m (step t)
 
--- Words and longs were changed by a step that counts at most k cells for a vertex.
-pub record Tallied (k : ℕ) (step : ℕ → ℕ → Tally → Tally) (words longs words' longs' : List ℕ) : Type 0 where
-  pub changed : Changed step words longs words' longs'
+-- The tallies were changed by a step on each axis that counts at most k cells for a vertex.
+pub record Tallied (k : ℕ) (step : ℕ → ℕ → Tally → Tally) (t t' : Tallies) : Type 0 where
+  pub ranks_kept : length t'.ranks.now ≡ length t.ranks.now
+  pub totals_kept : length t'.totals.now ≡ length t.totals.now
+  pub each : (a f : ℕ) → a < 3 → tally_at t' a f ≡ step a f (tally_at t a f)
   pub within : (a f : ℕ) → a < 3 → Within k (step a f)

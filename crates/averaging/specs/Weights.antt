@@ -1,7 +1,7 @@
 -- Words of inner contracts: weights, by the rules. The split positions of all corners of a child, in eighths, summed, count each corner of
 -- the parent with a weight.
 use Rattle.std.specs.Prelude.{cond, List, [], ◌∷◌, map, ℕ, ◌+◌, eqb}
-use Rattle.rules.specs.Lists.{concat_map, up_from}
+use Rattle.rules.specs.Lists.{concat_map}
 use Rattle.rules.specs.Mesh.{Kind, whole, smallest}
 use Rattle.rules.specs.Means.{Draw}
 use Rattle.rules.specs.Averaging.{eighths}
@@ -15,6 +15,6 @@ unfoldable pub weight_at : List Draw → ℕ → ℕ
 weight_at [] u = 0
 weight_at (t ∷ ts) u = let r = weight_at ts u in cond (eqb u t.vertex) (t.weight + r) r
 
--- a row for each child, and in it a weight for each of 8 places; there is none past the last corner
+-- a row for each child, and in it a weight for each corner
 unfoldable pub weight_rows : Kind → List (List ℕ)
-weight_rows κ = map (λ (i : ℕ). map (weight_at (child_draws κ i)) (up_from 0 8)) (whole κ)
+weight_rows κ = map (λ (i : ℕ). map (weight_at (child_draws κ i)) (whole κ)) (whole κ)

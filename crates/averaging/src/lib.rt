@@ -6,45 +6,46 @@
 
 ghost use Rattle.std.specs.Prelude.{◌≡◌, length};
 ghost use Rattle.rules.specs.Lists.{overwritten};
-ghost use Rattle.rules.specs.Mesh.{mesh, topology};
+ghost use Rattle.rules.specs.Mesh.{topology};
 ghost use Rattle.rules.specs.Averaging.{means, averaged};
+ghost use Rattle.tables.specs.Lent.{mesh_in};
 ghost use Rattle.averaging.specs.Ready.{Ready};
 
 mod coordinates;
+mod entries;
 mod means;
 mod tallies;
 mod weights;
 
-// xs and the next four tables are a mesh, the four after them its fine cells, and `count` is how many fine vertices it has. Working numbers:
-// two words and three longs for each fine vertex, whose contents at the start do not matter. The coordinates after the round go to `out`.
+use crate::entries::entries;
+use crate::means::finish;
+use crate::tallies::Tallies;
+use crate::weights::{HEX, POINT, QUAD, SEGMENT};
+use tables::MeshTables;
+
+// `fine` has the fine cells of the mesh, and coordinates that are not read; `count` is how many fine vertices there are. Working numbers: two
+// words and three longs for each fine vertex, whose contents at the start do not matter. The coordinates after the round go to `out`.
 pub fn average(
-    xs: &[i32],
-    hexes: &[u32],
-    quads: &[u32],
-    segments: &[u32],
-    points: &[u32],
-    fine_hexes: &[u32],
-    fine_quads: &[u32],
-    fine_segments: &[u32],
-    fine_points: &[u32],
+    mesh: MeshTables,
+    fine: MeshTables,
     count: usize,
     words: &mut [u32],
     longs: &mut [u64],
     out: &mut [i32],
 )
-    requires { Ready (mesh xs.now hexes.now quads.now segments.now points.now) (mesh xs.now fine_hexes.now fine_quads.now fine_segments.now fine_points.now) count (length words.old) (length longs.old) (length out.old) }
+    requires { Ready (mesh_in mesh) (mesh_in fine) count (length words.old) (length longs.old) (length out.old) }
     ensures lengths_kept { (length words.new ≡ length words.old) × (length longs.new ≡ length longs.old) }
-    ensures output { let m = mesh xs.now hexes.now quads.now segments.now points.now in
+    ensures output { let m = mesh_in mesh.entry in
         out.new ≡ overwritten out.old (averaged (means (topology m)) m.vertices) }
 {
-    tallies::reset(count, words, longs);
-    let point = weights::point_weights();
-    tallies::count_table(points, 1, &point, xs, fine_points, 0, words, longs);
-    let segment = weights::segment_weights();
-    tallies::count_table(segments, 2, &segment, xs, fine_segments, 1, words, longs);
-    let quad = weights::quad_weights();
-    tallies::count_table(quads, 4, &quad, xs, fine_quads, 2, words, longs);
-    let hex = weights::hex_weights();
-    tallies::count_table(hexes, 8, &hex, xs, fine_hexes, 3, words, longs);
-    means::finish(count, words, longs, out);
+    let vertices: &[[i32; 3]] = entries(mesh.vertices);
+    let (ranks, _) = words[..2 * count].as_chunks_mut::<2>();
+    let (totals, _) = longs[..3 * count].as_chunks_mut::<3>();
+    let mut tallies = Tallies { ranks, totals };
+    tallies.reset();
+    tallies.count_table(mesh.points, &POINT, 0, vertices, fine.points);
+    tallies.count_table(mesh.segments, &SEGMENT, 1, vertices, fine.segments);
+    tallies.count_table(mesh.quads, &QUAD, 2, vertices, fine.quads);
+    tallies.count_table(mesh.hexes, &HEX, 3, vertices, fine.hexes);
+    finish(&tallies, out);
 }

@@ -1,121 +1,97 @@
-// The tallies of the fine vertices: vertex f has its rank at 2 f and its valence at 2 f + 1 of `words`, and its three sums from 3 f on of `longs`.
-ghost use Rattle.std.specs.Prelude.{cond, ℕ, ◌+◌, ◌*◌, ◌≤◌, ◌<◌, ◌^◌, length, get_or, ltb, eqb};
-ghost use Rattle.averaging.specs.Tally.{Tally, tally_at, nothing, corner_step, Changed, Room, Tallied};
-ghost use Rattle.averaging.specs.Pass.{gathered_at, child_step, cell_step, table_step, cell_count, corner_count, Coarse, Fine};
+// The tallies of the fine vertices.
+ghost use Rattle.std.specs.Prelude.{◌≡◌, [], ℕ, ◌+◌, ◌*◌, ◌≤◌, ◌<◌, ◌^◌, length, get_or};
+ghost use Rattle.rules.specs.Lists.{cut};
+ghost use Rattle.averaging.specs.Tally.{tally_at, nothing, corner_step, Spare, Tallied};
+ghost use Rattle.averaging.specs.Pass.{gathered_at, child_step, cell_step, table_step, cell_count, Known, Near, Families};
 
-use crate::coordinates::{child_sums, gather, vertex_at};
+use crate::coordinates::{child_sums, gather};
+use crate::entries::entries;
 
-// The numbers of one vertex.
-fn store(
-    vertex: usize,
-    rank: u32,
-    valence: u32,
-    sums: [u64; 3],
-    words: &mut [u32],
-    longs: &mut [u64],
-)
-    requires { (2 * vertex + 1 < length words.old) × (3 * vertex + 2 < length longs.old) }
-    ensures { Changed (λ (a f : ℕ) (t : Tally). cond (eqb f vertex) (record { rank = rank; valence = valence; sum = get_or sums a 0 }) t) words.old longs.old words.new longs.new }
-{
-    words[2 * vertex] = rank;
-    words[2 * vertex + 1] = valence;
-    longs[3 * vertex] = sums[0];
-    longs[3 * vertex + 1] = sums[1];
-    longs[3 * vertex + 2] = sums[2];
+// The rank and the valence of each vertex, and its sums on the three axes.
+#[derive(Drop)]
+pub struct Tallies<'a> {
+    pub ranks: &'a mut [[u32; 2]],
+    pub totals: &'a mut [[u64; 3]],
 }
 
-// Nothing is counted for the first n vertices.
-pub fn reset(n: usize, words: &mut [u32], longs: &mut [u64])
-    requires { (2 * n ≤ length words.old) × (3 * n ≤ length longs.old) }
-    ensures { Changed (λ (a f : ℕ) (t : Tally). cond (ltb f n) nothing t) words.old longs.old words.new longs.new }
-{
-    let mut f = 0;
-    while f < n {
-        store(f, 3, 0, [0, 0, 0], words, longs);
-        f += 1;
+impl Tallies<'_> {
+    // Nothing is counted yet.
+    pub fn reset(&mut self)
+        requires { length self.old.totals.now ≡ length self.old.ranks.now }
+        ensures cleared { (a f : ℕ) → a < 3 → f < length self.old.ranks.now → tally_at self.new a f ≡ nothing }
+        ensures kept { (length self.new.ranks.now ≡ length self.old.ranks.now) × (length self.new.totals.now ≡ length self.old.totals.now) }
+    {
+        self.ranks.fill([3, 0]);
+        self.totals.fill([0; 3]);
     }
-}
 
-// A cell of dimension d counts for one of its corners.
-fn count_at(vertex: usize, d: u32, sums: [u64; 3], words: &mut [u32], longs: &mut [u64])
-    requires vertex_in_bounds { (2 * vertex + 1 < length words.old) × (3 * vertex + 2 < length longs.old) }
-    requires room { (a : ℕ) → a < 3 → Room 1 (tally_at words.old longs.old a vertex) }
-    requires sums_below { (a : ℕ) → a < 3 → get_or sums a 0 < 2 ^ 41 }
-    ensures { Tallied 1 (λ (a : ℕ). corner_step d (get_or sums a 0) vertex) words.old longs.old words.new longs.new }
-{
-    if d <= words[2 * vertex] {
-        let valence = words[2 * vertex + 1] + 1;
-        let x = longs[3 * vertex] + sums[0];
-        let y = longs[3 * vertex + 1] + sums[1];
-        let z = longs[3 * vertex + 2] + sums[2];
-        store(vertex, d, valence, [x, y, z], words, longs);
+    // A cell of dimension d counts for one of its corners.
+    #[tactic(auto, using(crate::proofs::Stores::valence_fits))]
+    fn count_at(&mut self, vertex: usize, d: u32, sums: [u64; 3])
+        requires room { (vertex < length self.old.ranks.now) × Spare 1 self.old }
+        requires sums_below { (a : ℕ) → a < 3 → get_or sums a 0 < 2 ^ 41 }
+        ensures { Tallied 1 (λ (a : ℕ). corner_step d (get_or sums a 0) vertex) self.old self.new }
+    {
+        let [rank, valence] = self.ranks[vertex];
+        let counts = d <= rank;
+        if counts {
+            self.ranks[vertex] = [d, valence + 1];
+            let [x, y, z] = self.totals[vertex];
+            self.totals[vertex] = [x + sums[0], y + sums[1], z + sums[2]];
+        }
     }
-}
 
-// A child counts for its n corners, which stand from `at` on.
-fn count_child(
-    fine: &[u32],
-    at: usize,
-    n: usize,
-    d: u32,
-    sums: [u64; 3],
-    words: &mut [u32],
-    longs: &mut [u64],
-)
-    requires fine { Fine at n n fine.now words.old longs.old }
-    requires sums_below { (a : ℕ) → a < 3 → get_or sums a 0 < 2 ^ 41 }
-    ensures { Tallied n (λ (a : ℕ). child_step n fine.now at d (get_or sums a 0)) words.old longs.old words.new longs.new }
-{
-    let mut j = 0;
-    while j < n {
-        let vertex = vertex_at(fine, at + j);
-        count_at(vertex, d, sums, words, longs);
-        j += 1;
+    // A child counts for its corners.
+    fn count_child<const N: usize>(&mut self, child: &[u32; N], d: u32, sums: [u64; 3])
+        requires room { Known (length self.old.ranks.now) child.now × Spare N self.old }
+        requires sums_below { (a : ℕ) → a < 3 → get_or sums a 0 < 2 ^ 41 }
+        ensures { Tallied N (λ (a : ℕ). child_step N d (get_or sums a 0) child.now) self.old self.new }
+    {
+        for corner in child {
+            self.count_at(*corner as usize, d, sums);
+        }
     }
-}
 
-// The n children of a cell count, each for its n corners.
-fn count_cell(
-    gathered: &[u64; 24],
-    n: usize,
-    weights: &[[u8; 8]],
-    fine: &[u32],
-    base: usize,
-    d: u32,
-    words: &mut [u32],
-    longs: &mut [u64],
-)
-    requires few_corners { (n ≤ 8) × (n ≤ length weights.now) × Fine base (n * n) (n * n) fine.now words.old longs.old }
-    requires below { (q : ℕ) → get_or gathered.now q 0 < 2 ^ 30 }
-    ensures { Tallied (n * n) (λ (a : ℕ). cell_step n weights.now (gathered_at gathered.now a) fine.now base d) words.old longs.old words.new longs.new }
-{
-    let mut i = 0;
-    while i < n {
-        let sums = child_sums(&weights[i], n, gathered);
-        count_child(fine, base + n * i, n, d, sums, words, longs);
-        i += 1;
+    // The children of a cell of dimension d count, each for its corners.
+    fn count_cell<const N: usize>(
+        &mut self,
+        children: &[[u32; N]; N],
+        weights: &[[u8; N]; N],
+        d: u32,
+        gathered: &[[u64; 3]; N],
+    )
+        requires few { N ≤ 8 }
+        requires room { ((i : ℕ) → i < N → Known (length self.old.ranks.now) (get_or children.now i [])) × Spare (N * N) self.old }
+        requires below { (u a : ℕ) → u < N → a < 3 → gathered_at gathered.now a u < 2 ^ 30 }
+        ensures { Tallied (N * N) (λ (a : ℕ). cell_step N d weights.now (gathered_at gathered.now a) children.now) self.old self.new }
+    {
+        for (row, child) in weights.iter().zip(children) {
+            let sums = child_sums(row, gathered);
+            self.count_child(child, d, sums);
+        }
     }
-}
 
-// The pass over one table of cells of n corners: their children count, with the dimension d.
-pub fn count_table(
-    corners: &[u32],
-    n: usize,
-    weights: &[[u8; 8]],
-    xs: &[i32],
-    fine: &[u32],
-    d: u32,
-    words: &mut [u32],
-    longs: &mut [u64],
-)
-    requires { (0 < n) × (n ≤ length weights.now) × Coarse n (cell_count n corners.now) corners.now xs.now × Fine 0 (corner_count n corners.now) (corner_count n corners.now) fine.now words.old longs.old }
-    ensures { Tallied (corner_count n corners.now) (table_step n weights.now corners.now xs.now fine.now d) words.old longs.old words.new longs.new }
-{
-    let count = corners.len() / n;
-    let mut c = 0;
-    while c < count {
-        let gathered = gather(corners, n, c, xs);
-        count_cell(&gathered, n, weights, fine, n * n * c, d, words, longs);
-        c += 1;
+    // The pass over one table of cells of dimension d: their children count, which stand in `fine` in the order of the cells.
+    // The dimension stands beside the weights, since proofs are not told how long an array in a struct behind a reference is.
+    pub fn count_table<const N: usize>(
+        &mut self,
+        corners: &[u32],
+        weights: &[[u8; N]; N],
+        d: u32,
+        vertices: &[[i32; 3]],
+        fine: &[u32],
+    )
+        requires few { (0 < N) × (N ≤ 8) }
+        requires cells { Families N (length vertices.now) (length self.old.ranks.now) (cut N corners.now) (cut N (cut N fine.now)) }
+        requires near { Near vertices.now }
+        requires room { Spare (N * N * cell_count N corners.now) self.old }
+        ensures { Tallied (N * N * cell_count N corners.now) (table_step N d weights.now vertices.now (cut N corners.now) (cut N (cut N fine.now))) self.old self.new }
+    {
+        let cells: &[[u32; N]] = entries(corners);
+        let families: &[[[u32; N]; N]] = entries(entries(fine));
+        for (cell, family) in cells.iter().zip(families) {
+            let gathered = gather(cell, vertices);
+            self.count_cell(family, weights, d, &gathered);
+        }
     }
 }

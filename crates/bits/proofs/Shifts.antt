@@ -1,18 +1,14 @@
 -- What shifts and masks of a word of w bits are in plain arithmetic, over the width and the count.
-use Prim.Native.Nat.{ℕ, ◌+◌, ◌-◌, ◌*◌, ◌%◌, ◌^◌, ◌≤◌, ◌<◌}
+use Prim.Native.Nat.{ℕ, ◌+◌, ◌-◌, ◌*◌, ◌%◌, ◌^◌, ◌<◌}
 use mathlib.Core.Path.{◌≡◌, sym, ap, ◌∙◌, subst}
 use native.Mathlib.Nat.{mod-eq_of_lt, one-mul}
 use lib.Arith.{digits_lt}
-use lib.Pow.{pow-lt, pow_pos, pow-add}
+use lib.Pow.{pow-lt, pow-add}
 use lib.Bits.{bit_and, bit_or, and_mask, or_shifted}
 
 -- `1 << k`
 one_shl : (w k : ℕ) → k < w → (1 * 2 ^ k) % 2 ^ w ≡ 2 ^ k
 one_shl w k h = ap (λ (n : ℕ). n % 2 ^ w) (one-mul (2 ^ k)) ∙ mod-eq_of_lt (pow-lt h)
-
--- `(1 << k) - 1` does not wrap
-pub one_shl_pos : (w k : ℕ) → k < w → 1 ≤ (1 * 2 ^ k) % 2 ^ w
-one_shl_pos w k h = subst (λ (n : ℕ). 1 ≤ n) (sym (one_shl w k h)) (pow_pos k)
 
 -- `x & ((1 << k) - 1)`: the k low bits
 pub mask_law : (w k x : ℕ) → k < w → bit_and x ((1 * 2 ^ k) % 2 ^ w - 1) ≡ x % 2 ^ k

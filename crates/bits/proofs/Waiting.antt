@@ -6,12 +6,12 @@ use mathlib.Core.List.{List}
 use native.Mathlib.Nat.{add_assoc, mul-zero, mul-one, div-one, mod-lt}
 use native.Mathlib.Omega.{arith}
 use lib.ListN.{length, take, get_or}
-use lib.Seq.{take-length, sets}
+use lib.Seq.{sets}
 use lib.Pow.{pow_pos, pow-add, shr_lt, shr_mod, recompose}
 use Rattle.rules.specs.Bits.{number, first_bits, bytes_of}
 use Rattle.rules.specs.StoredForm.{table_fields}
-use Rattle.bits.specs.declared.Pending.{Pending}
-use Rattle.bits.specs.Writing.{Bytes, written, put_at, put_all, Waiting, end_of, settled}
+use Rattle.bits.specs.declared.pending.Pending.{Pending}
+use Rattle.bits.specs.Writing.{Bytes, written, put_at, put_all, end_of, settled}
 use Rattle.bits.proofs.Shifts.{append_lt}
 use Rattle.bits.proofs.Bytes.{number_lt}
 use Rattle.bits.proofs.Windows.{first_byte, put_bytes}
@@ -50,6 +50,18 @@ pend_same d at k v hd h =
     ap (λ (l : List ℕ). put_at l at k v) (ap₂ (written d) here first)
     ∙ put_written d at (first_bits d at) k v hd (first_lt d at hd (omega arith))
 
+-- k bits of v behind those that wait: they are spelled together, and put as one field they are put one behind the other
+pub record Joined (d : List ℕ) (p : Pending) (k v bits : ℕ) : Type 0 where
+  pub small : bits < 2 ^ (p.count + k)
+  pub one : put_at d (8 * p.at) (p.count + k) bits ≡ put_at (settled d p) (end_of p) k v
+
+pub joined : (d : List ℕ) (p : Pending) (k v bits : ℕ) → Bytes d → v < 2 ^ k → end_of p ≤ 8 * length d → bits ≡ p.bits * 2 ^ k + v
+    → Joined d p k v bits
+joined d p k v bits hd hv room e = record {
+  small = subst (λ (n : ℕ). n < 2 ^ (p.count + k)) (sym e) (append_lt p.count k p.bits v p.spelled hv);
+  one = ap (put_at d (8 * p.at) (p.count + k)) e ∙ sym (put_put d (8 * p.at) p.count p.bits k v hd (omega arith) p.spelled);
+}
+
 -- of more than 32 bits, the first 32 put and the others waiting
 pub put_first : (d : List ℕ) (at count x : ℕ) → Bytes d → 32 < count → 8 * at + count ≤ 8 * length d → x < 2 ^ count
     → let left : ℕ = count - 32 in
@@ -71,7 +83,6 @@ put_first d at count x hd hc room hx =
 
 -- after i entries of T, w bits each, put from bit `at` of d₀ on, the buffer is d and p waits
 pub record Putting (d₀ : List ℕ) (at w : ℕ) (T d : List ℕ) (p : Pending) (i : ℕ) : Type 0 where
-  pub waits : Waiting p
   pub end : end_of p ≡ at + w * i
   pub long : length d ≡ length d₀
   -- what is put next is put behind the first i entries
@@ -80,12 +91,11 @@ pub record Putting (d₀ : List ℕ) (at w : ℕ) (T d : List ℕ) (p : Pending)
   pub some : 0 < i → settled d p ≡ put_all d₀ at (table_fields w (take i T))
 
 -- no entry yet: p waits before bit `at` (`pend`)
-pub put_start : (d : List ℕ) (at w : ℕ) (T : List ℕ) (p : Pending) → Waiting p → end_of p ≡ at
+pub put_start : (d : List ℕ) (at w : ℕ) (T : List ℕ) (p : Pending) → end_of p ≡ at
     → ((k v : ℕ) → put_at (settled d p) at k v ≡ put_at d at k v) → Putting d at w T d p 0
-put_start d at w T p waits end next =
+put_start d at w T p end next =
     let none : at + w * 0 ≡ at = omega (arith, mul-zero w) in
     record {
-      waits = waits;
       end = end ∙ sym none;
       long = refl;
       next = λ k v. ap (λ (e : ℕ). put_at (settled d p) e k v) end ∙ next k v
@@ -95,23 +105,15 @@ put_start d at w T p waits end next =
 
 -- one entry more, put behind what waits (`put_next`)
 pub put_turn : {d₀ d e T : List ℕ} {at w i : ℕ} {p r : Pending} (v : ℕ) → Putting d₀ at w T d p i → i < length T → v ≡ get_or T i 0
-    → Waiting r → end_of r ≡ end_of p + w → settled e r ≡ put_at (settled d p) (end_of p) w v → length e ≡ length d
+    → end_of r ≡ end_of p + w → settled e r ≡ put_at (settled d p) (end_of p) w v → length e ≡ length d
     → Putting d₀ at w T e r (i + 1)
-put_turn {d₀} {d} {e} {T} {at} {w} {i} {p} {r} v h l entry waits end is long =
+put_turn {d₀} {d} {e} {T} {at} {w} {i} {p} {r} v h l entry end is long =
     let there : end_of r ≡ at + w * (i + 1) = omega (arith, end, h.end) in
     let now : settled e r ≡ put_all d₀ at (table_fields w (take (i + 1) T)) =
     is ∙ h.next w v ∙ ap (put_at (put_all d₀ at (table_fields w (take i T))) (at + w * i) w) entry ∙ put_step d₀ T at w i l in
     record {
-      waits = waits;
       end = there;
       long = long ∙ h.long;
       next = λ k x. ap₂ (λ (b : List ℕ) (q : ℕ). put_at b q k x) now there;
       some = λ _. now;
     }
-
--- all entries, of a table that has some
-pub put_end : {d₀ d T : List ℕ} {at w i : ℕ} {p : Pending} → Putting d₀ at w T d p i → i ≡ length T → 0 < i
-    → (end_of p ≡ at + w * length T) × (settled d p ≡ put_all d₀ at (table_fields w T))
-put_end {d₀} {d} {T} {at} {w} {i} {p} h all some =
-    let whole : take i T ≡ T = ap (λ (n : ℕ). take n T) all ∙ take-length T in
-    (h.end ∙ ap (λ (n : ℕ). at + w * n) all, h.some some ∙ ap (λ (l : List ℕ). put_all d₀ at (table_fields w l)) whole)

@@ -2,39 +2,32 @@
 use Prim.Native.Nat.{ℕ, suc, ◌+◌, ◌-◌, ◌*◌, ◌/◌, ◌%◌, ◌^◌, ◌≤◌, ◌<◌}
 use mathlib.Core.Path.{◌≡◌, sym, ap, ap₂, ◌∙◌, subst}
 use mathlib.Core.List.{List, [], ◌∷◌, ◌++◌}
-use native.Mathlib.Nat.{div-one, mul_assoc, mul-add-mod_self_right, mul-add-div_right, lt_of_lt_of_le}
+use native.Mathlib.Nat.{mod-lt, div-one, mul_assoc, mul-add-mod_self_right, mul-add-div_right, lt_of_lt_of_le}
 use native.Mathlib.Numerals.{add-one}
 use native.Mathlib.Omega.{arith}
 use lib.ListN.{length, take, drop, get_or, length-drop, length-take, take-append-drop}
-use lib.Seq.{get_or-drop, take-suc, length-take-le, take-add, sets, sets-eq}
+use lib.Seq.{take-suc, length-take-le, take-add, sets, sets-eq}
 use lib.Pow.{pow_pos, pow-add, pow_mono, shl_lt}
 use Rattle.rules.specs.Bits.{number, first_bits, field_at, bytes_for, bytes_of, packed}
 use Rattle.bits.specs.Writing.{Bytes, written, put_at}
-use Rattle.bits.proofs.Bytes.{number_nil, number_one, number_append, number_lt, drop_bytes, take_bytes, bytes_number, bytes_of_append, length_bytes_of}
+use Rattle.bits.proofs.Bytes.{number_one, number_append, number_lt, drop_bytes, take_bytes, bytes_number, bytes_of_append, length_bytes_of}
 use Rattle.bits.proofs.Fields.{first_append}
 
--- ---- a run of bytes as one number
+-- ---- bytes as one number
 
--- no byte yet
-pub window_none : (s : List ℕ) (from : ℕ) → 0 ≡ number (take 0 (drop from s))
-window_none s from = sym number_nil
-
--- one byte more at the end
-pub window_step : (s : List ℕ) (from i : ℕ) → from + i < length s
-    → number (take (i + 1) (drop from s)) ≡ number (take i (drop from s)) * 2 ^ 8 + get_or s (from + i) 0
-window_step s from i h =
-    let t : List ℕ = drop from s in
-    ap (λ (n : ℕ). number (take n t)) (add-one i)
-    ∙ ap number (take-suc t i 0 (rw length-drop (omega arith)))
-    ∙ number_append (take i t) (get_or t i 0 ∷ [])
-    ∙ ap (λ (n : ℕ). number (take i t) * 2 ^ 8 + n) (number_one (get_or t i 0) ∙ get_or-drop from s i 0)
+-- one byte more
+pub front_step : (s : List ℕ) (i : ℕ) → i < length s → number (take (i + 1) s) ≡ number (take i s) * 2 ^ 8 + get_or s i 0
+front_step s i h =
+    ap (λ (n : ℕ). number (take n s)) (add-one i)
+    ∙ ap number (take-suc s i 0 h)
+    ∙ number_append (take i s) (get_or s i 0 ∷ [])
+    ∙ ap (λ (n : ℕ). number (take i s) * 2 ^ 8 + n) (number_one (get_or s i 0))
 
 -- at most n bytes are below 2 ^ (8 * n)
-pub window_lt : (s : List ℕ) (from j n : ℕ) → Bytes s → j ≤ n → number (take j (drop from s)) < 2 ^ (8 * n)
-window_lt s from j n hs h =
-    let t : List ℕ = take j (drop from s) in
-    let l : 8 * length t ≤ 8 * n = omega (arith, length-take j (drop from s)) in
-    lt_of_lt_of_le (number_lt t (take_bytes j (drop from s) (drop_bytes from s hs))) (pow_mono l)
+pub front_lt : (s : List ℕ) (i n : ℕ) → Bytes s → i ≤ n → number (take i s) < 2 ^ (8 * n)
+front_lt s i n hs h =
+    let l : 8 * length (take i s) ≤ 8 * n = omega (arith, length-take i s) in
+    lt_of_lt_of_le (number_lt (take i s) (take_bytes i s hs)) (pow_mono l)
 
 -- ---- out of bytes
 
@@ -67,6 +60,10 @@ field_window s p k from n to hs h h₁ h₂ h₃ =
     (ap (λ (q : ℕ). q % 2 ^ k)
     (first ∙ ap (λ (q : ℕ). (q + number w) / 2 ^ e) up ∙ mul-add-div_right (pow_pos e) (number a * 2 ^ j * 2 ^ k) (number w))
     ∙ mul-add-mod_self_right (number a * 2 ^ j) (2 ^ k) (number w / 2 ^ e))
+
+-- k bits, at most 32, are a u32
+pub field_fits : (k x : ℕ) {v : ℕ} → k ≤ 32 → v ≡ x % 2 ^ k → v < 2 ^ 32
+field_fits k x h e = subst (λ (n : ℕ). n < 2 ^ 32) (sym e) (lt_of_lt_of_le (mod-lt x (pow_pos k)) (pow_mono h))
 
 -- ---- into bytes
 

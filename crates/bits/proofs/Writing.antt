@@ -1,12 +1,12 @@
 -- Fields put one behind another from bit 0 on leave their stored form, and the bytes behind it as they were (`put_encode`).
 use Prim.Native.Nat.{ℕ, ◌+◌, ◌-◌, ◌*◌, ◌^◌, ◌≤◌, ◌<◌}
 use mathlib.Core.Path.{◌≡◌, refl, sym, ap, ap₂, ◌∙◌}
-use mathlib.Core.List.{List, [], ◌∷◌, ◌++◌, map-append}
+use mathlib.Core.List.{List, [], ◌∷◌, ◌++◌, map, map-append}
 use native.Mathlib.Nat.{add_assoc, add-zero, zero-add, mul-zero}
 use native.Mathlib.Numerals.{add-one}
 use native.Mathlib.Omega.{arith}
 use lib.ListN.{length, take, drop, get_or}
-use lib.Seq.{drop-drop, drop-append-add, take-suc, take-length, length-take-le}
+use lib.Seq.{drop-drop, drop-append-add, take-suc, length-take-le}
 use lib.Dec.{lit<}
 use lib.Pow.{pow-add}
 use Rattle.rules.specs.Lists.{overwritten}
@@ -78,11 +78,10 @@ pub put_none : (d t : List ℕ) (at w : ℕ) → d ≡ put_all d at (table_field
 unfolding table_fields put_all
 put_none d t at w = refl
 
-pub put_empty : (d t : List ℕ) (at w : ℕ) → length t ≡ 0 → (at ≡ at + w * length t) × (d ≡ put_all d at (table_fields w t))
-put_empty d t at w e = (
-  omega (arith, mul-zero w, ap (λ (n : ℕ). w * n) e),
-  put_none d t at w ∙ ap (λ (l : List ℕ). put_all d at (table_fields w l)) (ap (λ (n : ℕ). take n t) (sym e) ∙ take-length t),
-)
+pub put_empty : {A : Type 0} (d : List ℕ) (f : A → ℕ) (t : List A) (at w : ℕ) → length t ≡ 0
+    → (at ≡ at + w * length t) × (d ≡ put_all d at (table_fields w (map f t)))
+put_empty d f [] at w e = (omega (arith, mul-zero w), put_none d [] at w)
+put_empty d f (x ∷ t) at w e = absurd (omega arith)
 
 pub put_step : (d t : List ℕ) (at w i : ℕ) → i < length t
     → put_at (put_all d at (table_fields w (take i t))) (at + w * i) w (get_or t i 0) ≡ put_all d at (table_fields w (take (i + 1) t))

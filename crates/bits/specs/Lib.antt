@@ -3,3 +3,5 @@
 pub mod BitList
 -- Writing: a buffer into which fields are written one behind another.
 pub mod Writing
+-- Entries: the law of a table's entries.
+pub mod Entries

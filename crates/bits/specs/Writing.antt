@@ -1,7 +1,7 @@
 -- Words of inner contracts: a buffer into which bit fields are written one behind another.
-use Rattle.std.specs.Prelude.{List, [], ◌∷◌, ◌++◌, ℕ, ◌+◌, ◌*◌, ◌^◌, ◌≤◌, ◌<◌, drop, get_or}
+use Rattle.std.specs.Prelude.{List, [], ◌∷◌, ◌++◌, ℕ, ◌+◌, ◌*◌, ◌^◌, ◌<◌, drop, get_or}
 use Rattle.rules.specs.Bits.{first_bits, Field, bytes_for, packed}
-use Rattle.bits.specs.declared.Pending.{Pending}
+use Rattle.bits.specs.declared.pending.Pending.{Pending}
 
 -- every element is a byte
 abbrev pub Bytes : List ℕ → Type 0
@@ -26,10 +26,6 @@ put_all d p [] = d
 put_all d p (f ∷ fs) = put_all (put_at d p f.width f.value) (p + f.width) fs
 
 -- ---- bits that wait to be put
-
--- at most 32 bits wait
-abbrev pub Waiting : Pending → Type 0
-Waiting p = (p.count ≤ 32) × (p.bits < 2 ^ p.count)
 
 -- the bit behind them
 abbrev pub end_of : Pending → ℕ

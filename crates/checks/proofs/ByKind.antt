@@ -1,19 +1,18 @@
 -- The checks by table: what a test over all kinds of cells says of each table. Assumes nothing.
 use mathlib.Core.Path.{◌≡◌, refl, sym, ◌∙◌}
 use mathlib.Core.Bool.{Bool, false, not, ◌||◌}
-use mathlib.Core.List.{List, [], map}
+use mathlib.Core.List.{List, map}
 use Prim.Native.Nat.{ℕ, ◌/◌, ◌%◌}
 use native.Mathlib.Omega.{arith}
 use lib.ListN.{length}
-use lib.Dec.{leb, eqb, lit<}
+use lib.Dec.{leb, eqb}
 use borrow.Author.Tests.{not-false, eqb-true}
-use Rattle.rules.specs.Lists.{any, repeats, entries, cut, up_from, has, key_of, same}
-use Rattle.rules.specs.Mesh.{Mesh, Kind, hex, quad, segment, point, kinds, corners, mesh, topology, cells_of}
-use Rattle.rules.specs.Refusals.{partial_entry, corner_out_of_range, repeated_corner, duplicate_cell, mismatched_face, isolated_vertex}
+use Rattle.rules.specs.Lists.{any, repeats, cut, up_from, has, key_of, same}
+use Rattle.rules.specs.Mesh.{Mesh, Kind, hex, quad, segment, point, kinds, corners, topology, cells_of}
+use Rattle.rules.specs.Refusals.{partial_entry, corner_out_of_range, repeated_corner, duplicate_cell, isolated_vertex}
 use Rattle.lists.proofs.Tests.{or_false, or_neither, any_same}
 use Rattle.lists.proofs.Tables.{any_cut}
 use Rattle.checks.specs.Held.{isolated_in}
-use Rattle.checks.proofs.WalkLaws.{met_mesh}
 
 -- the flat table of a kind
 abbrev pub table_of : Mesh → Kind → List ℕ
@@ -101,24 +100,12 @@ pub no_duplicates : (m : Mesh) → duplicate_cell (topology m) ≡ false → (κ
     → repeats same (map key_of (cut (corners κ) (table_of m κ))) ≡ false
 no_duplicates m h κ = no_kind (λ (κ : Kind). repeats same (map key_of (cut (corners κ) (table_of m κ)))) (sym (duplicate_tables m) ∙ h) κ
 
--- 5 and 7 look at neither positions nor points, and 7 at no segment's faces
-pub fewer_tables : (m : Mesh) → repeated_corner (topology m) ≡ false
-    → repeated_corner (topology (mesh [] m.hexes m.quads m.segments [])) ≡ false
-unfolding cut any entries
-fewer_tables m h =
-    repeat_tables (mesh [] m.hexes m.quads m.segments [])
-    ∙ rw (no_repeats m h hex, no_repeats m h quad, no_repeats m h segment)
-
-pub mismatched_tables : (m : Mesh) → mismatched_face (topology m) ≡ mismatched_face (topology (mesh [] m.hexes m.quads m.segments []))
-unfolding mismatched_face
-mismatched_tables m = rw (met_mesh 2 (lit< tt) m)
-
 -- 8, by table
 pub isolated_tables : (m : Mesh) → partial_entry m ≡ false
-    → isolated_vertex (topology m) ≡ any (isolated_in m.hexes m.quads m.segments m.points) (up_from 0 (length m.vertices / 3))
+    → isolated_vertex (topology m) ≡ any (isolated_in m) (up_from 0 (length m.vertices / 3))
 unfolding isolated_vertex topology has
 isolated_tables m h =
-    any_same (λ (v : ℕ). not (any (λ (κ : Kind). any (has v) (cells_of (topology m) κ)) kinds)) (isolated_in m.hexes m.quads m.segments m.points) (up_from 0 (length m.vertices / 3))
+    any_same (λ (v : ℕ). not (any (λ (κ : Kind). any (has v) (cells_of (topology m) κ)) kinds)) (isolated_in m) (up_from 0 (length m.vertices / 3))
     (λ v i.
     let w = whole_tables m h in
     rw (

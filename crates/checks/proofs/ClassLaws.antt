@@ -2,36 +2,18 @@
 use mathlib.Core.Path.{◌≡◌, refl, sym, ap, ◌∙◌}
 use mathlib.Core.Bool.{Bool, true, false, cond}
 use mathlib.Core.List.{List, [], ◌∷◌, map}
-use Prim.Native.Nat.{ℕ, suc, ◌+◌, ◌*◌, ◌%◌, ◌^◌, ◌<◌, ◌≤◌}
-use native.Mathlib.Nat.{div-le_self, mod-lt, div-lt_iff_lt-mul, mul_comm, mul-lt-mul_of_pos_right}
+use Prim.Native.Nat.{ℕ, suc, ◌+◌, ◌*◌, ◌%◌, ◌^◌, ◌<◌}
+use native.Mathlib.Nat.{mod-lt, div-lt_iff_lt-mul, mul_comm, mul-lt-mul_of_pos_right}
 use native.Mathlib.Omega.{arith}
-use lib.Dec.{leb, ltb, eqb, lit<}
+use lib.Dec.{leb, ltb, eqb}
 use lib.ListN.{length}
 use borrow.Author.Tests.{ltb-true, ltb-false, eqb-true, eqb-false, lt-ltb, le-ltb}
 use Rattle.rules.specs.Lists.{keep, Key, insert, key_of, distinct}
 use Rattle.lists.proofs.Membership.{in_keep, keep_in}
-use Rattle.lists.proofs.Tables.{length_cut}
 use Rattle.lists.proofs.Once.{once_keep, length_same}
 use Rattle.lists.proofs.Distinct.{in_distinct, distinct_in, once_distinct}
-use Rattle.checks.specs.declared.classes.Walk.{Walk}
-use Rattle.checks.specs.declared.classes.Walk.TheVariants.{Edges, Faces, Cells}
-use Rattle.checks.specs.Classes.{walked, Size, squared, total, class_of, in_class}
-use Rattle.checks.proofs.WalkLaws.{met_fits}
-
--- ---- what is walked
-
--- at most 8 corners
-pub few_corners : (of : Walk) (k : ℕ) → Size of k → k ≤ 8
-few_corners Edges k h = omega arith
-few_corners Faces k h = omega arith
-few_corners Cells k h = h.1
-
--- their count fits 64 bits, since the bytes of a slice fit 63
-pub walked_fits : (of : Walk) (k : ℕ) (hs qs ss : List ℕ) → length hs * 4 < 2 ^ 63 → length qs * 4 < 2 ^ 63 → length ss * 4 < 2 ^ 63
-    → length (walked of k hs qs ss) < 2 ^ 64
-walked_fits Edges k hs qs ss a b c = met_fits 1 (lit< tt) hs qs ss (lit< tt) a b c
-walked_fits Faces k hs qs ss a b c = met_fits 2 (lit< tt) hs qs ss (lit< tt) a b c
-walked_fits Cells k hs qs ss a b c = omega (arith, length_cut k hs, div-le_self (length hs) k)
+use Rattle.checks.specs.declared.classes.Class.{Class}
+use Rattle.checks.specs.Classes.{squared, total, class_of, in_class}
 
 -- ---- the class is that of the corner set
 
@@ -80,12 +62,12 @@ module _ {A B : Type 0} (f : A → B) (p : B → Bool) (q : A → Bool) (same : 
       go true e = ap (λ (l : List B). f x ∷ l) e
       go false e = e
 
-pub class_distinct : (m class : ℕ) (ps : List (List ℕ))
-    → length (distinct (map key_of (keep (in_class m class) ps))) ≡ length (keep (in_class m class) (distinct (map key_of ps)))
-class_distinct m class ps =
+pub class_distinct : (class : Class) (ps : List (List ℕ))
+    → length (distinct (map key_of (keep (in_class class) ps))) ≡ length (keep (in_class class) (distinct (map key_of ps)))
+class_distinct class ps =
     ap (λ (ks : List Key). length (distinct ks))
-    (sym (keep_map key_of (in_class m class) (in_class m class) (λ p. ap (λ (n : ℕ). eqb n class) (class_key m p)) ps))
-    ∙ distinct_keep (in_class m class) (map key_of ps)
+    (sym (keep_map key_of (in_class class) (in_class class) (λ p. ap (λ (n : ℕ). eqb n class.number) (class_key class.count p)) ps))
+    ∙ distinct_keep (in_class class) (map key_of ps)
 
 -- ---- the classes one after the other
 

@@ -6,7 +6,7 @@ use Prim.Native.Nat.{ℕ, ◌+◌, ◌<◌, ◌≤◌}
 use native.Mathlib.Numerals.{add-one}
 use native.Mathlib.Omega.{arith}
 use lib.ListN.{length, take, get_or, length-append}
-use lib.Seq.{take-suc, take_all}
+use lib.Seq.{take-suc}
 use Rattle.rules.specs.Lists.{any, Key, same, meet_all, distinct}
 use Rattle.lists.specs.Membership.{In}
 use Rattle.lists.proofs.Tests.{false≢true}
@@ -47,6 +47,3 @@ module _ {ks : List Key} {i count : ℕ} (at : Counting ks i count) (h : i < len
             ∙ sym (length-append (distinct (take i ks)) (get_or ks i [] ∷ []))
             ∙ ap length (sym (next ∙ distinct_turn (take i ks) (get_or ks i []) ∙ meet_absent (get_or ks i []) (distinct (take i ks)) absent));
       }
-
-pub count_end : {ks : List Key} {i count : ℕ} → Counting ks i count → length ks ≤ i → count ≡ length (distinct ks)
-count_end {ks} {i} at h = at.is ∙ ap (λ (l : List Key). length (distinct l)) (take_all i ks h)

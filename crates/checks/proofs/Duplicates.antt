@@ -3,13 +3,13 @@ use mathlib.Core.Path.{◌≡◌, refl, sym, ap, ◌∙◌, subst}
 use mathlib.Core.Bool.{Bool, true, false, not, ◌||◌}
 use mathlib.Core.Logic.{inl, inr, ⊎_elim}
 use mathlib.Core.List.{List, [], ◌∷◌, ◌++◌, map, map-append, map-map}
-use Prim.Native.Nat.{ℕ, suc, ◌/◌, ◌<◌, ◌≤◌}
+use Prim.Native.Nat.{ℕ, suc, ◌/◌}
 use native.Mathlib.Omega.{arith}
-use lib.Dec.{eqb, lit<}
+use lib.Dec.{eqb}
 use lib.ListN.{length, length-map}
 use borrow.Author.Tests.{eq-eqb, ne_eqb}
 use Rattle.rules.specs.Lists.{any, repeats, concat_map, entries, cut, up_from, Key, key_of, same, distinct}
-use Rattle.rules.specs.Mesh.{Kind, hex, quad, segment, point, corners, whole, singles, places, by_dimension}
+use Rattle.rules.specs.Mesh.{hex, quad, segment, whole, singles, places, by_dimension}
 use Rattle.rules.specs.Split.{corners_at, key_at}
 use Rattle.lists.specs.Membership.{In}
 use Rattle.lists.proofs.Once.{length_within}
@@ -23,6 +23,7 @@ use Rattle.numbering.specs.declared.parts.Parts.{Parts}
 use Rattle.numbering.specs.declared.parts.Parts.TheVariants.{HexEdges, HexFaces, Hexes, QuadEdges, Quads, Segments, SegmentFaces, Points}
 use Rattle.numbering.specs.Parts.{kind_of, dimension_of, places_of, part_corners, cell_corners, part_keys, table_keys}
 use Rattle.numbering.specs.Count.{edge_keys}
+use Rattle.checks.specs.declared.parts.Part.TheVariants.{Edge}
 use Rattle.checks.specs.Walk.{parts_of, met_in, count_in}
 use Rattle.checks.proofs.WalkLaws.{met_is}
 
@@ -115,7 +116,7 @@ edge_keys_lem hs qs ss =
     let Q = parts_of quad 1 qs in
     let S = parts_of segment 1 ss in
     rw (part_keys_lem HexEdges hs, part_keys_lem QuadEdges qs, part_keys_lem Segments ss)
-    (sym (ap (map key_of) (met_is 1 (lit< tt) hs qs ss) ∙ map-append key_of H (Q ++ S)
+    (sym (ap (map key_of) (met_is Edge hs qs ss) ∙ map-append key_of H (Q ++ S)
     ∙ ap (λ (l : List Key). map key_of H ++ l) (map-append key_of Q S)))
 
 -- segments that are all different are as many edges
@@ -130,13 +131,3 @@ segments_alone [] [] ss a b h =
     ∙ ap length (distinct_once ks (repeats_once_keys ks h))
     ∙ length-map (cut 2 ss) key_of
     ∙ length_cut 2 ss
-
--- a cell has 1 to 8 corners
-pub some_corners : (of : Parts) → (0 < cell_corners of) × (cell_corners of ≤ 8)
-some_corners of = go (kind_of of)
-  where
-    go : (κ : Kind) → (0 < corners κ) × (corners κ ≤ 8)
-    go hex = omega arith
-    go quad = omega arith
-    go segment = omega arith
-    go point = omega arith

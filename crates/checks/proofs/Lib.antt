@@ -1,22 +1,24 @@
 -- Laws that the checks share.
--- Scans: a loop that goes through a list and stops at the first element that passes a test.
-pub mod Scans
--- ByKind: the checks by table.
-pub mod ByKind
+-- Library: the library's words in the rules'.
+pub mod Library
 -- Slices: parts of a slice that a call is lent.
 pub mod Slices
 -- WalkLaws: the walk of a mesh by number.
 pub mod WalkLaws
--- CornerSets: when two cells have one corner set.
-pub mod CornerSets
 -- PlainParts: no edge and no face names a corner twice.
 pub mod PlainParts
+-- CornerSets: when two cells have one corner set.
+pub mod CornerSets
+-- ByKind: the checks by table.
+pub mod ByKind
 -- Counting: a loop that counts distinct keys.
 pub mod Counting
 -- Mismatch: check 7 by number.
 pub mod Mismatch
 -- Marking: marks of corners.
 pub mod Marking
+-- Windows: a loop over vertices, some at a time.
+pub mod Windows
 -- TaggedLaws: a table of keys with tags.
 pub mod TaggedLaws
 -- ClassLaws: edges, faces or cells in classes.

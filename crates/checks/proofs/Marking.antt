@@ -1,16 +1,17 @@
 -- Marking the corners of tables: a loop's turn, and what the marks of all tables say. Assumes nothing.
-use mathlib.Core.Path.{◌≡◌, refl, sym, ap, ◌∙◌, subst}
+use mathlib.Core.Path.{◌≡◌, refl, sym, ap, ◌∙◌}
 use mathlib.Core.Bool.{Bool, true, false, not, cond, ◌||◌}
 use mathlib.Core.List.{List}
-use Prim.Native.Nat.{ℕ, ◌+◌, ◌<◌, ◌≤◌}
+use Prim.Native.Nat.{ℕ, ◌+◌, ◌<◌}
 use native.Mathlib.Nat.{add-zero}
 use native.Mathlib.Numerals.{add-one}
 use native.Mathlib.Omega.{arith}
 use lib.Dec.{eqb}
 use lib.ListN.{length, take, get_or, set, replicate, length-set, length-replicate, get_or-replicate}
-use lib.Seq.{get_or-set_same, get_or-set_other, take_all}
+use lib.Seq.{get_or-set_same, get_or-set_other}
 use borrow.Author.Tests.{eqb-true, eqb-false, ne_eqb}
 use Rattle.rules.specs.Lists.{any, up_from, has}
+use Rattle.rules.specs.Mesh.{Mesh}
 use Rattle.lists.proofs.Membership.{in_up_from, up_from_shift}
 use Rattle.lists.proofs.Tests.{any_turn, any_map, any_same, or_true, or_false}
 use Rattle.numbering.proofs.Firsts.{firsts_get_or}
@@ -50,10 +51,6 @@ module _ {first x : ℕ} {old new : List ℕ} (table : List ℕ) (i : ℕ) (m : 
     at = λ v k. rw (more (first + v), ne_eqb (first + v) (get_or table i 0) (f v k), or_false (any (eqb (first + v)) (take i table))) (m.at v k);
   }
 
-pub mark_end : {first x : ℕ} {old new : List ℕ} (table : List ℕ) (i : ℕ) → Marked first x old new (take i table) → length table ≤ i
-    → Marked first x old new table
-mark_end {first} {x} {old} {new} table i m h = subst (Marked first x old new) (take_all i table h) m
-
 -- ---- four tables, one after the other
 
 -- a list by its places
@@ -74,7 +71,7 @@ unmarked a true false false = rw (or_true a)
 unmarked true false false false = refl
 unmarked false false false false = refl
 
-module _ (first n : ℕ) {w₀ w₁ w₂ w₃ w₄ hs qs ss ps : List ℕ} (start : w₀ ≡ replicate n 0) (m₁ : Marked first 1 w₀ w₁ hs) (m₂ : Marked first 1 w₁ w₂ qs) (m₃ : Marked first 1 w₂ w₃ ss) (m₄ : Marked first 1 w₃ w₄ ps) where
+module _ (first n : ℕ) (m : Mesh) {w₀ w₁ w₂ w₃ w₄ : List ℕ} (start : w₀ ≡ replicate n 0) (m₁ : Marked first 1 w₀ w₁ m.hexes) (m₂ : Marked first 1 w₁ w₂ m.quads) (m₃ : Marked first 1 w₂ w₃ m.segments) (m₄ : Marked first 1 w₃ w₄ m.points) where
   pub marks_kept : (length w₀ ≡ n) × (length w₁ ≡ n) × (length w₂ ≡ n) × (length w₃ ≡ n) × (length w₄ ≡ n)
   marks_kept =
       let k₀ : length w₀ ≡ n = ap length start ∙ length-replicate n 0 in
@@ -83,12 +80,12 @@ module _ (first n : ℕ) {w₀ w₁ w₂ w₃ w₄ hs qs ss ps : List ℕ} (star
       let k₃ = m₃.kept ∙ k₂ in
       (k₀, k₁, k₂, k₃, m₄.kept ∙ k₃)
 
-  pub isolated_by_marks : any (eqb 0) w₄ ≡ any (isolated_in hs qs ss ps) (up_from first n)
+  pub isolated_by_marks : any (eqb 0) w₄ ≡ any (isolated_in m) (up_from first n)
   isolated_by_marks =
       let k = marks_kept in
       any_places (eqb 0) w₄
       ∙ ap (λ (l : ℕ). any (λ (v : ℕ). eqb 0 (get_or w₄ v 0)) (up_from 0 l)) k.4
-      ∙ any_same (λ (v : ℕ). eqb 0 (get_or w₄ v 0)) (λ (v : ℕ). isolated_in hs qs ss ps (first + v)) (up_from 0 n)
+      ∙ any_same (λ (v : ℕ). eqb 0 (get_or w₄ v 0)) (λ (v : ℕ). isolated_in m (first + v)) (up_from 0 n)
       (λ v i.
       let l : v < n = omega (arith, in_up_from 0 n v i) in
       let zero : get_or w₀ v 0 ≡ 0 = ap (λ (w : List ℕ). get_or w v 0) start ∙ get_or-replicate n v 0 0 l in
@@ -98,5 +95,5 @@ module _ (first n : ℕ) {w₀ w₁ w₂ w₃ w₄ hs qs ss ps : List ℕ} (star
         m₂.at v (rw k.1 l),
         m₁.at v (rw k.0 l),
         zero,
-      ) (unmarked (has (first + v) hs) (has (first + v) qs) (has (first + v) ss) (has (first + v) ps)))
-      ∙ any_shift (isolated_in hs qs ss ps) first n
+      ) (unmarked (has (first + v) m.hexes) (has (first + v) m.quads) (has (first + v) m.segments) (has (first + v) m.points)))
+      ∙ any_shift (isolated_in m) first n

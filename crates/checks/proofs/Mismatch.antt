@@ -4,11 +4,10 @@ use mathlib.Core.Bool.{true, false, not, ◌&&◌}
 use mathlib.Core.List.{List, []}
 use Prim.Native.Nat.{ℕ, ◌<◌}
 use lib.Dec.{eqb, lit<}
-use lib.ListN.{length, get_or, take}
-use lib.Seq.{get_or-take}
+use lib.ListN.{length, get_or}
 use borrow.Author.Tests.{eq-eqb, ne_eqb}
 use Rattle.rules.specs.Lists.{any, key_of, same}
-use Rattle.rules.specs.Mesh.{Topology, mesh, topology}
+use Rattle.rules.specs.Mesh.{Topology, topology}
 use Rattle.rules.specs.Split.{met}
 use Rattle.rules.specs.Refusals.{repeated_corner, mismatched, mismatched_face}
 use Rattle.lists.specs.Membership.{In}
@@ -19,13 +18,13 @@ use Rattle.soundness.specs.Across.{across}
 use Rattle.soundness.proofs.Checks.{Sized, mesh_sized}
 use Rattle.soundness.proofs.Across.{met_quad, mismatched_across}
 use Rattle.checks.specs.declared.classes.Walk.TheVariants.{Faces}
-use Rattle.checks.specs.Walk.{met_in}
+use Rattle.checks.specs.declared.cells.PlainMesh.{PlainMesh}
+use Rattle.checks.specs.declared.parts.Part.TheVariants.{Face}
+use Rattle.tables.specs.declared.MeshTables.{MeshTables}
+use Rattle.tables.specs.Lent.{mesh_in}
+use Rattle.checks.specs.Walk.{parts_met}
 use Rattle.checks.specs.Classes.{Agreeing, Apart}
-
--- the first four corners are the face
-pub across_take : (f : List ℕ) → across (take 4 f) ≡ across f
-unfolding across
-across_take f = rw (get_or-take 4 f 0 0 (lit< tt), get_or-take 4 f 1 0 (lit< tt), get_or-take 4 f 2 0 (lit< tt), get_or-take 4 f 3 0 (lit< tt))
+use Rattle.checks.proofs.WalkLaws.{met_mesh}
 
 module _ (t : Topology) (z : Sized t) (h₅ : repeated_corner t ≡ false) where
   -- two faces of the walk
@@ -34,7 +33,7 @@ module _ (t : Topology) (z : Sized t) (h₅ : repeated_corner t ≡ false) where
   mismatched_in f g i j = mismatched_across f g (met_quad t z h₅ f i) (met_quad t z h₅ g j)
 
   -- what the walk of all faces found
-  pub apart_mismatched : Apart Faces (met t 2) → mismatched_face t ≡ true
+  pub apart_mismatched : {tables : MeshTables} → Apart (Faces tables) (met t 2) → mismatched_face t ≡ true
   unfolding mismatched_face
   apart_mismatched a =
       let f = a.one in
@@ -45,7 +44,7 @@ module _ (t : Topology) (z : Sized t) (h₅ : repeated_corner t ≡ false) where
       ∙ both_and (same (key_of f) (key_of g)) (not (eqb (across f) (across g))) (eq_same (key_of f) (key_of g) a.keys)
       (ap not (ne_eqb (across f) (across g) a.tags))))
 
-  pub agreeing_matched : {n : ℕ} → Agreeing Faces (met t 2) n → mismatched_face t ≡ false
+  pub agreeing_matched : {tables : MeshTables} {n : ℕ} → Agreeing (Faces tables) (met t 2) n → mismatched_face t ≡ false
   unfolding mismatched_face
   agreeing_matched a =
       in_none (λ (f : List ℕ). any (mismatched f) (met t 2)) (met t 2)
@@ -54,13 +53,13 @@ module _ (t : Topology) (z : Sized t) (h₅ : repeated_corner t ≡ false) where
       (λ e. ap not (eq-eqb (across f) (across g) (a.agree f g i j (same_eq (key_of f) (key_of g) e))))))
 
 -- two faces by number
-module _ (hs qs ss : List ℕ) (h : repeated_corner (topology (mesh [] hs qs ss [])) ≡ false) (i j : ℕ) (k : i < length (met_in 2 hs qs ss))
-    (l : j < length (met_in 2 hs qs ss)) where
+module _ (p : PlainMesh) (i j : ℕ) (k : i < length (parts_met Face p.tables)) (l : j < length (parts_met Face p.tables)) where
   abbrev F : List (List ℕ)
-  F = met_in 2 hs qs ss
+  F = parts_met Face p.tables
 
   pub mismatched_at : mismatched (get_or F i []) (get_or F j [])
       ≡ (same (key_of (get_or F i [])) (key_of (get_or F j [])) && not (eqb (across (get_or F i [])) (across (get_or F j []))))
   mismatched_at =
-      let m = mesh [] hs qs ss [] in
-      mismatched_in (topology m) (mesh_sized m) h (get_or F i []) (get_or F j []) (get_or_in F i [] k) (get_or_in F j [] l)
+      let m = mesh_in p.tables in
+      mismatched_in (topology m) (mesh_sized m) p.plain (get_or F i []) (get_or F j [])
+      (rw (met_mesh 2 (lit< tt) m) (get_or_in F i [] k)) (rw (met_mesh 2 (lit< tt) m) (get_or_in F j [] l))

@@ -1,21 +1,18 @@
 -- What the first checks let through. Assumes nothing.
-use mathlib.Core.Path.{◌≡◌, refl, sym, ◌∙◌}
+use mathlib.Core.Path.{◌≡◌, refl}
 use mathlib.Core.Bool.{Bool, true, false}
-use mathlib.Core.List.{List, []}
 use Prim.Native.Nat.{ℕ, ◌/◌, ◌≤◌}
 use native.Mathlib.Omega.{arith}
 use lib.ListN.{length}
 use lib.Dec.{ltb, eqb}
 use borrow.Author.Tests.{ltb-false}
 use Rattle.rules.specs.Counts.{counts_of, out_of_range}
-use Rattle.rules.specs.Mesh.{Mesh, mesh, topology}
+use Rattle.rules.specs.Mesh.{Mesh, topology}
 use Rattle.rules.specs.Refusals.{check, partial_entry, count_out_of_range, coordinate_out_of_range, corner_out_of_range, repeated_corner, duplicate_cell, mismatched_face, isolated_vertex, table_checks, mesh_checks}
 use Rattle.lists.proofs.Tests.{or_neither}
-use Rattle.checks.specs.declared.Checked.{Checked}
-use Rattle.checks.specs.declared.by_classes.Faces.{Faces}
-use Rattle.checks.specs.declared.by_classes.Faces.TheVariants.{Matching, Mismatched}
-use Rattle.checks.specs.Walk.{count_in}
-use Rattle.checks.specs.Checked.{FacesChecked, MeshChecked}
+use Rattle.rules.specs.declared.Refusal.{Refusal}
+use Rattle.rules.specs.Answers.{number_of}
+use Rattle.rules.proofs.Named.{number_is_suc}
 
 -- 1 to 4 pass
 pub record TablesPass (m : Mesh) : Type 0 where
@@ -44,32 +41,19 @@ unfolding mesh_checks table_checks
 cells_decide m p later = rw (p.whole, p.counts, p.inside, p.known)
 
 -- a refusal of 1 to 4 is that of the mesh
-pub tables_refuse : (m : Mesh) → (table_checks m 0 ≡ 0 → ⊥) → table_checks m 0 ≡ mesh_checks m 0
+pub tables_refuse : (m : Mesh) (r : Refusal) → number_of r ≡ table_checks m 0 → number_of r ≡ mesh_checks m 0
 unfolding mesh_checks table_checks
-tables_refuse m h =
+tables_refuse m r h =
     go (partial_entry m) (count_out_of_range m) (coordinate_out_of_range m) (corner_out_of_range (topology m))
     (check (repeated_corner (topology m)) 5 (check (duplicate_cell (topology m)) 6 (check (mismatched_face (topology m)) 7 (check (isolated_vertex (topology m)) 8 0)))) h
   where
-    go : (a b c d : Bool) (later : ℕ) → (check a 1 (check b 2 (check c 3 (check d 4 0))) ≡ 0 → ⊥)
-        → check a 1 (check b 2 (check c 3 (check d 4 0))) ≡ check a 1 (check b 2 (check c 3 (check d 4 later)))
-    go true b c d later h = refl
-    go false true c d later h = refl
-    go false false true d later h = refl
-    go false false false true later h = refl
-    go false false false false later h = absurd (h refl)
-
--- what the checks answer, where they refuse
-pub refused_is : (m : Mesh) (r : Checked) {n : ℕ} → r.refusal ≡ n → (n ≡ 0 → ⊥) → n ≡ mesh_checks m 0 → MeshChecked m r
-refused_is m r e h f = record { refusal = e ∙ f; faces = λ z. absurd (h (sym e ∙ z)) }
-
--- check 7, where it passes and where it does not
-pub faces_match : (hs qs ss : List ℕ) (r : Faces) {n : ℕ} → r ≡ Matching n → FacesChecked hs qs ss r
-    → (mismatched_face (topology (mesh [] hs qs ss [])) ≡ false) × (n ≡ count_in 2 hs qs ss)
-faces_match hs qs ss r e f = rw e at f
-
-pub faces_mismatch : (hs qs ss : List ℕ) (r : Faces) → r ≡ Mismatched → FacesChecked hs qs ss r
-    → mismatched_face (topology (mesh [] hs qs ss [])) ≡ true
-faces_mismatch hs qs ss r e f = rw e at f
+    go : (a b c d : Bool) (later : ℕ) → number_of r ≡ check a 1 (check b 2 (check c 3 (check d 4 0)))
+        → number_of r ≡ check a 1 (check b 2 (check c 3 (check d 4 later)))
+    go true b c d later h = h
+    go false true c d later h = h
+    go false false true d later h = h
+    go false false false true later h = h
+    go false false false false later h = absurd (let e = (number_is_suc r).1 in omega (arith, e, h))
 
 -- the counts are in their ranges (rule 1.4)
 pub record Few (m : Mesh) : Type 0 where

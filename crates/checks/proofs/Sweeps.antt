@@ -6,8 +6,6 @@ use mathlib.Core.List.{List, [], ◌∷◌, ◌++◌, map, map-append, append-ni
 use Prim.Native.Nat.{ℕ, ◌+◌, ◌<◌, ◌≤◌}
 use native.Mathlib.Numerals.{add-one}
 use native.Mathlib.Omega.{arith}
-use denote.Enum.Declared.{tag_of}
-use types.Run.{OneOf, miss}
 use lib.Dec.{ltb}
 use lib.ListN.{length, take, get_or, length-map}
 use lib.Seq.{take-suc, take_all}
@@ -19,14 +17,13 @@ use Rattle.lists.proofs.Tests.{either}
 use Rattle.lists.proofs.Distinct.{index_below, in_distinct, distinct_in, distinct_turn, index_stays, distinct_length}
 use Rattle.numbering.specs.Table.{keys}
 use Rattle.numbering.proofs.Entries.{length_keys}
-use Rattle.checks.specs.declared.tagged.Met.{Met}
-use Rattle.checks.specs.declared.tagged.Met.TheVariants.{Agrees, Differs}
+use Rattle.std.specs.Prelude.{Result, Ok, Err}
+use Rattle.checks.specs.declared.tagged.Stopped.{Stopped}
+use Rattle.checks.specs.declared.tagged.Stopped.TheVariants.{Differs, Full}
 use Rattle.checks.specs.declared.classes.Walk.{Walk}
-use Rattle.checks.specs.declared.classes.Verdict.{Verdict}
-use Rattle.checks.specs.declared.classes.Verdict.TheVariants.{Fails, Passes, Unknown}
+use Rattle.checks.specs.declared.classes.Class.{Class}
 use Rattle.checks.specs.Tagged.{front, beside, Tagged, Agreed, Differed}
 use Rattle.checks.specs.Classes.{tag_for, class_of, in_class, ClassMet, Agreeing, Apart, Found}
-use Rattle.checks.specs.contracts.classes.Verdict.{the_type}
 use Rattle.checks.proofs.ClassLaws.{class_key, class_below, class_distinct, keep_below, keep_next, keep_none, keep_all}
 use Rattle.checks.proofs.Slices.{take_in}
 
@@ -110,70 +107,67 @@ module _ {A : Type 0} (t : A → Bool) where
   keep_snoc xs x = keep_append xs (x ∷ [])
 
 -- the first i of ps were looked at
-pub record Sweeping (of : Walk) (m class : ℕ) (ps : List (List ℕ)) (c : ℕ) (w : List ℕ) (room n i : ℕ) : Type 0 where
+pub record Sweeping (of : Walk) (class : Class) (ps : List (List ℕ)) (c : ℕ) (w : List ℕ) (room n i : ℕ) : Type 0 where
   pub below : i ≤ length ps
-  swept : Swept of (keep (in_class m class) (take i ps)) c w room n
+  swept : Swept of (keep (in_class class) (take i ps)) c w room n
 
-pub sweep_tagged : {of : Walk} {m class : ℕ} {ps : List (List ℕ)} {c : ℕ} {w : List ℕ} {room n i : ℕ} → Sweeping of m class ps c w room n i
+pub sweep_tagged : {of : Walk} {class : Class} {ps : List (List ℕ)} {c : ℕ} {w : List ℕ} {room n i : ℕ} → Sweeping of class ps c w room n i
     → Tagged c w room n
 sweep_tagged s = s.swept.tagged
 
-pub sweep_start : (of : Walk) (m class : ℕ) (ps : List (List ℕ)) {c : ℕ} {w : List ℕ} {room : ℕ} → Tagged c w room 0
-    → Sweeping of m class ps c w room 0 0
+pub sweep_start : (of : Walk) (class : Class) (ps : List (List ℕ)) {c : ℕ} {w : List ℕ} {room : ℕ} → Tagged c w room 0
+    → Sweeping of class ps c w room 0 0
 unfolding keys up_from distinct meet_all keep
-sweep_start of m class ps t = record { below = omega arith; swept = record { tagged = t; keys_are = refl; agree = λ p i. absurd i } }
+sweep_start of class ps t = record { below = omega arith; swept = record { tagged = t; keys_are = refl; agree = λ p i. absurd i } }
 
-module _ {of : Walk} {m class : ℕ} {ps : List (List ℕ)} {c : ℕ} {w : List ℕ} {room n i : ℕ} (s : Sweeping of m class ps c w room n i) (l : i < length ps) where
+module _ {of : Walk} {class : Class} {ps : List (List ℕ)} {c : ℕ} {w : List ℕ} {room n i : ℕ} (s : Sweeping of class ps c w room n i) (l : i < length ps) where
   abbrev this : List ℕ
   this = get_or ps i []
 
-  next : keep (in_class m class) (take (i + 1) ps) ≡ keep (in_class m class) (take i ps) ++ cond (in_class m class this) (this ∷ []) []
-  next = rw (add-one i, take-suc ps i [] l) (keep_snoc (in_class m class) (take i ps) this)
+  next : keep (in_class class) (take (i + 1) ps) ≡ keep (in_class class) (take i ps) ++ cond (in_class class this) (this ∷ []) []
+  next = rw (add-one i, take-suc ps i [] l) (keep_snoc (in_class class) (take i ps) this)
 
   -- what was read is this one, and so many corners
-  module _ {w' p : List ℕ} {k : ℕ} (e : p ≡ get_or ps i []) (d : k ≡ c) {r : Met} (met : ClassMet m class p k w w' room n (tag_for of p) r) where
-    this_met : (a : Met) → r ≡ a → ClassMet m class this c w w' room n (tag_for of this) a
+  module _ {w' p : List ℕ} {k : ℕ} (e : p ≡ get_or ps i []) (d : k ≡ c) {r : Result ℕ Stopped} (met : ClassMet class p k w w' room n (tag_for of p) r) where
+    this_met : (a : Result ℕ Stopped) → r ≡ a → ClassMet class this c w w' room n (tag_for of this) a
     this_met a f = rw (e, d, f) at met
 
-  pub sweep_turn : {w' p : List ℕ} {k count : ℕ} {r : Met} → p ≡ get_or ps i [] → k ≡ c → r ≡ Agrees count
-      → ClassMet m class p k w w' room n (tag_for of p) r → Sweeping of m class ps c w' room count (i + 1)
-  sweep_turn {w'} {p} {k} {count} {r} e d f met = record { below = omega arith; swept = rw next (go (in_class m class this) refl) }
+  pub sweep_turn : {w' p : List ℕ} {k count : ℕ} {r : Result ℕ Stopped} → p ≡ get_or ps i [] → k ≡ c → r ≡ Ok count
+      → ClassMet class p k w w' room n (tag_for of p) r → Sweeping of class ps c w' room count (i + 1)
+  sweep_turn {w'} {p} {k} {count} {r} e d f met = record { below = omega arith; swept = rw next (go (in_class class this) refl) }
     where
-      here : ClassMet m class this c w w' room n (tag_for of this) (Agrees count)
-      here = this_met e d met (Agrees count) f
+      here : ClassMet class this c w w' room n (tag_for of this) (Ok count)
+      here = this_met e d met (Ok count) f
 
-      go : (b : Bool) → in_class m class this ≡ b → Swept of (keep (in_class m class) (take i ps) ++ cond b (this ∷ []) []) c w' room count
+      go : (b : Bool) → in_class class this ≡ b → Swept of (keep (in_class class) (take i ps) ++ cond b (this ∷ []) []) c w' room count
       go true e = swept_turn s.swept this (here.inside e)
       go false e =
           let o = here.outside e in
-          rw (append-nil (keep (in_class m class) (take i ps)), o.0, o.1) s.swept
+          rw (append-nil (keep (in_class class) (take i ps)), o.0, o.1) s.swept
 
-  pub sweep_differs : {w' p : List ℕ} {k : ℕ} {r : Met} → p ≡ get_or ps i [] → k ≡ c → r ≡ Differs
-      → ClassMet m class p k w w' room n (tag_for of p) r → Apart of (keep (in_class m class) ps)
-  sweep_differs {w'} {p} {k} {r} e d f met = go (in_class m class this) refl
+  -- where it stops, it stops for the class
+  pub sweep_stops : {w' p : List ℕ} {k : ℕ} → p ≡ get_or ps i [] → k ≡ c → (r : Stopped)
+      → ClassMet class p k w w' room n (tag_for of p) (Err r) → Found of (keep (in_class class) ps) (Err r)
+  sweep_stops {w'} {p} {k} e d Differs met = go (in_class class this) refl
     where
-      here : ClassMet m class this c w w' room n (tag_for of this) Differs
-      here = this_met e d met Differs f
+      here : ClassMet class this c w w' room n (tag_for of this) (Err Differs)
+      here = this_met e d met (Err Differs) refl
 
-      go : (b : Bool) → in_class m class this ≡ b → Apart of (keep (in_class m class) ps)
+      go : (b : Bool) → in_class class this ≡ b → Apart of (keep (in_class class) ps)
       go true e =
-          swept_differs s.swept this (here.inside e) (keep (in_class m class) ps) (keep_in (in_class m class) ps this (get_or_in ps i [] l) e)
-          (λ q j. let k = in_keep (in_class m class) (take i ps) q j in keep_in (in_class m class) ps q (take_in ps i q k.0) k.1)
+          swept_differs s.swept this (here.inside e) (keep (in_class class) ps) (keep_in (in_class class) ps this (get_or_in ps i [] l) e)
+          (λ q j. let k = in_keep (in_class class) (take i ps) q j in keep_in (in_class class) ps q (take_in ps i q k.0) k.1)
       go false e = absurd (here.outside e)
+  sweep_stops e d Full met = tt
 
-pub sweep_end : {of : Walk} {m class : ℕ} {ps : List (List ℕ)} {c : ℕ} {w : List ℕ} {room n i : ℕ} → Sweeping of m class ps c w room n i → length ps ≤ i
-    → Agreeing of (keep (in_class m class) ps) n
-sweep_end {of} {m} {class} {ps} {c} {w} {room} {n} {i} s h = rw (take_all i ps h) at (swept_end s.swept)
+pub sweep_end : {of : Walk} {class : Class} {ps : List (List ℕ)} {c : ℕ} {w : List ℕ} {room n i : ℕ} → Sweeping of class ps c w room n i → length ps ≤ i
+    → Agreeing of (keep (in_class class) ps) n
+sweep_end {of} {class} {ps} {c} {w} {room} {n} {i} s h = rw (take_all i ps h) at (swept_end s.swept)
 
 -- ---- all classes
 
--- a count that is answered
-pub found_passes : (of : Walk) (ps : List (List ℕ)) (r : Verdict) {n : ℕ} → r ≡ Passes n → Found of ps r → Agreeing of ps n
-found_passes of ps r e f = rw e at f
-
--- a difference that is answered
-pub found_fails : (of : Walk) (ps : List (List ℕ)) (r : Verdict) → r ≡ Fails → Found of ps r → Apart of ps
-found_fails of ps r e f = rw e at f
+abbrev pub this_class : ℕ → ℕ → Class
+this_class m class = record { number = class; count = m }
 
 -- in the classes below `class` there are n corner sets, and what has one corner set has one tag
 pub record Totalling (of : Walk) (m : ℕ) (ps : List (List ℕ)) (n class : ℕ) : Type 0 where
@@ -189,25 +183,21 @@ total_start of m ps = record {
 }
 
 module _ {of : Walk} {m : ℕ} {ps : List (List ℕ)} {n class : ℕ} (t : Totalling of m ps n class) where
-  pub total_turn : class < m → (r : Verdict) {more : ℕ} → r ≡ Passes more → Found of (keep (in_class m class) ps) r
-      → Totalling of m ps (n + more) (class + 1)
-  total_turn h r {more} x f = record {
+  pub total_turn : class < m → {more : ℕ} → Agreeing of (keep (in_class (this_class m class)) ps) more → Totalling of m ps (n + more) (class + 1)
+  total_turn h {more} a = record {
     below = omega arith;
-    total_is = rw (t.total_is, a.count_is ∙ class_distinct m class ps) (keep_next (class_of m) class (distinct (map key_of ps)));
+    total_is = rw (t.total_is, a.count_is ∙ class_distinct (this_class m class) ps) (keep_next (class_of m) class (distinct (map key_of ps)));
     agree = λ p q i j e l. ⊎_elim
         (λ (b : ltb (class_of m p) class ≡ true). t.agree p q i j e (ltb-true (class_of m p) class b))
         (λ (b : ltb (class_of m p) class ≡ false). last p q i j e (omega (arith, l, ltb-false (class_of m p) class b)))
         (either (ltb (class_of m p) class));
   }
     where
-      a : Agreeing of (keep (in_class m class) ps) more
-      a = found_passes of (keep (in_class m class) ps) r x f
-
       last : (p q : List ℕ) → In p ps → In q ps → key_of p ≡ key_of q → class_of m p ≡ class → tag_for of p ≡ tag_for of q
       last p q i j e x =
           let y : class_of m q ≡ class = sym (class_key m q) ∙ ap (class_of m) (sym e) ∙ class_key m p ∙ x in
-          a.agree p q (keep_in (in_class m class) ps p i (eq-eqb (class_of m p) class x))
-          (keep_in (in_class m class) ps q j (eq-eqb (class_of m q) class y)) e
+          a.agree p q (keep_in (in_class (this_class m class)) ps p i (eq-eqb (class_of m p) class x))
+          (keep_in (in_class (this_class m class)) ps q j (eq-eqb (class_of m q) class y)) e
 
   -- there are no more of them than places
   pub total_few : n ≤ length ps
@@ -228,18 +218,13 @@ module _ {of : Walk} {m : ℕ} {ps : List (List ℕ)} {n class : ℕ} (t : Total
       }
 
 -- what differs in a class differs; and what is left open is left open
-apart_all : {of : Walk} (m class : ℕ) (ps : List (List ℕ)) → Apart of (keep (in_class m class) ps) → Apart of ps
-apart_all m class ps a = record {
+pub found_all : (of : Walk) (class : Class) (ps : List (List ℕ)) (e : Stopped) → Found of (keep (in_class class) ps) (Err e) → Found of ps (Err e)
+found_all of class ps Differs a = record {
   one = a.one;
   other = a.other;
-  one_in = (in_keep (in_class m class) ps a.one a.one_in).0;
-  other_in = (in_keep (in_class m class) ps a.other a.other_in).0;
+  one_in = (in_keep (in_class class) ps a.one a.one_in).0;
+  other_in = (in_keep (in_class class) ps a.other a.other_in).0;
   keys = a.keys;
   tags = a.tags;
 }
-
-pub found_all : (of : Walk) (m class : ℕ) (ps : List (List ℕ)) (r : Verdict) → OneOf (1 ∷ 2 ∷ []) (tag_of the_type r)
-    → Found of (keep (in_class m class) ps) r → Found of ps r
-found_all of m class ps (Passes n) o f = absurd (miss (1 ∷ 2 ∷ []) 0 tt o)
-found_all of m class ps Fails o f = apart_all m class ps f
-found_all of m class ps Unknown o f = tt
+found_all of class ps Full a = tt

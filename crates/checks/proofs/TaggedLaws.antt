@@ -104,7 +104,7 @@ module _ {c : ℕ} {w ys : List ℕ} {room n number count : ℕ} (k : Key) (t : 
   size_le = omega (arith, tagged.fits)
 
   -- where the key's tag stands is within the memory
-  pub number_within : words_for c room + number < length after
+  number_within : words_for c room + number < length after
   number_within = rw (whole_length (words_for c room) w ys l size_le) (omega (arith, met.known, met.table.used, tagged.fits))
 
   -- the key is new, and t becomes its tag

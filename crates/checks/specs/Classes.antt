@@ -1,36 +1,37 @@
 -- Words of inner contracts: edges, faces or cells in classes: which class one is in, and what going over all of them finds.
-use Rattle.std.specs.Prelude.{◌≡◌, Bool, true, false, List, [], ◌∷◌, map, ℕ, ◌+◌, ◌*◌, ◌/◌, ◌%◌, ◌^◌, ◌≤◌, ◌<◌, eqb, length}
+use Rattle.std.specs.Prelude.{◌≡◌, Result, Ok, Err, Bool, true, false, List, [], ◌∷◌, map, ℕ, ◌+◌, ◌*◌, ◌/◌, ◌%◌, ◌^◌, ◌≤◌, ◌<◌, eqb, length}
 use Rattle.rules.specs.Lists.{cut, key_of, distinct}
 use Rattle.lists.specs.Membership.{In}
 use Rattle.soundness.specs.Across.{across}
-use Rattle.checks.specs.declared.tagged.Met.{Met}
-use Rattle.checks.specs.declared.tagged.Met.TheVariants.{Agrees, Differs, Full}
+use Rattle.checks.specs.declared.tagged.TaggedKeys.{TaggedKeys}
+use Rattle.checks.specs.declared.tagged.Stopped.{Stopped}
+use Rattle.checks.specs.declared.tagged.Stopped.TheVariants.{Differs, Full}
+use Rattle.checks.specs.declared.parts.Part.TheVariants.{Edge, Face}
 use Rattle.checks.specs.declared.classes.Walk.{Walk}
 use Rattle.checks.specs.declared.classes.Walk.TheVariants.{Edges, Faces, Cells}
-use Rattle.checks.specs.declared.classes.Verdict.{Verdict}
-use Rattle.checks.specs.declared.classes.Verdict.TheVariants.{Fails, Passes, Unknown}
-use Rattle.checks.specs.Walk.{met_in}
-use Rattle.checks.specs.Tagged.{TagMet}
+use Rattle.checks.specs.declared.classes.Class.{Class}
+use Rattle.checks.specs.Walk.{size_of, parts_met}
+use Rattle.checks.specs.Tagged.{TagMet, counted}
 
 -- ---- what is walked
 
--- the corners of the edges or of the faces of three tables, or of the cells of the first, which have k corners each
-abbrev pub walked : Walk → ℕ → List ℕ → List ℕ → List ℕ → List (List ℕ)
-walked Edges k hexes quads segments = met_in 1 hexes quads segments
-walked Faces k hexes quads segments = met_in 2 hexes quads segments
-walked Cells k cells _ _ = cut k cells
+-- the corners of the edges or of the faces of a mesh, or of the cells of a table, which have k corners each
+abbrev pub walked : Walk → ℕ → List (List ℕ)
+walked (Edges mesh) k = parts_met Edge mesh
+walked (Faces mesh) k = parts_met Face mesh
+walked (Cells cells) k = cut k cells.now
 
 -- each has k corners
 abbrev pub Size : Walk → ℕ → Type 0
-Size Edges k = k ≡ 2
-Size Faces k = k ≡ 4
-Size Cells k = (0 < k) × (k ≤ 8)
+Size (Edges mesh) k = k ≡ size_of Edge
+Size (Faces mesh) k = k ≡ size_of Face
+Size (Cells cells) k = (0 < k) × (k ≤ 8)
 
 -- what tells two apart that have one corner set: of faces that go round, the corner across the least
 abbrev pub tag_for : Walk → List ℕ → ℕ
-tag_for Edges p = 0
-tag_for Faces p = across p
-tag_for Cells p = 0
+tag_for (Edges mesh) p = 0
+tag_for (Faces mesh) p = across p
+tag_for (Cells cells) p = 0
 
 -- ---- the classes
 
@@ -46,19 +47,22 @@ total (x ∷ xs) = squared x + total xs
 unfoldable pub class_of : ℕ → List ℕ → ℕ
 class_of m p = total p % 2 ^ 32 * 1640531527 % 2 ^ 32 * m / 2 ^ 32
 
-abbrev pub in_class : ℕ → ℕ → List ℕ → Bool
-in_class m class p = eqb (class_of m p) class
+abbrev pub in_class : Class → List ℕ → Bool
+in_class class p = eqb (class_of class.count p) class.number
 
 -- nothing is met
-abbrev pub Skipped : List ℕ → List ℕ → ℕ → Met → Type 0
-Skipped w w' n (Agrees count) = (count ≡ n) × (w' ≡ w)
-Skipped w w' n Differs = ⊥
-Skipped w w' n Full = ⊥
+abbrev pub Skipped : List ℕ → List ℕ → ℕ → Result ℕ Stopped → Type 0
+Skipped w w' n (Ok count) = (count ≡ n) × (w' ≡ w)
+Skipped w w' n (Err e) = ⊥
 
 -- corners p are met if they are in the class, and passed over if not
-pub record ClassMet (m class : ℕ) (p : List ℕ) (c : ℕ) (w w' : List ℕ) (room n t : ℕ) (r : Met) : Type 0 where
-  pub inside : in_class m class p ≡ true → TagMet c w w' room n (key_of p) t r
-  pub outside : in_class m class p ≡ false → Skipped w w' n r
+pub record ClassMet (class : Class) (p : List ℕ) (c : ℕ) (w w' : List ℕ) (room n t : ℕ) (r : Result ℕ Stopped) : Type 0 where
+  pub inside : in_class class p ≡ true → TagMet c w w' room n (key_of p) t r
+  pub outside : in_class class p ≡ false → Skipped w w' n r
+
+-- the same of a table as a value
+abbrev pub CornersMet : Class → ℕ → TaggedKeys → TaggedKeys → List ℕ → ℕ → Result (Unit {0}) Stopped → Type 0
+CornersMet class c old new p t r = ClassMet class p c old.words.now new.words.now old.room old.known t (counted r new.known)
 
 -- ---- what is found
 
@@ -77,7 +81,7 @@ pub record Apart (of : Walk) (ps : List (List ℕ)) : Type 0 where
   pub tags : tag_for of one ≡ tag_for of other → ⊥
 
 -- with too little memory the answer may stay open
-abbrev pub Found : Walk → List (List ℕ) → Verdict → Type 0
-Found of ps (Passes n) = Agreeing of ps n
-Found of ps Fails = Apart of ps
-Found of ps Unknown = Unit {0}
+abbrev pub Found : Walk → List (List ℕ) → Result ℕ Stopped → Type 0
+Found of ps (Ok n) = Agreeing of ps n
+Found of ps (Err Differs) = Apart of ps
+Found of ps (Err Full) = Unit {0}

@@ -1,9 +1,16 @@
 -- Words of inner contracts: a vertex is in a cell, by the tables: where these hold whole entries it is the test of check 8.
 use Rattle.std.specs.Prelude.{Bool, not, ◌||◌, List, ℕ}
+use Rattle.std.specs.List.{list_all}
 use Rattle.rules.specs.Lists.{has}
+use Rattle.rules.specs.Mesh.{Mesh}
 
-abbrev pub held_in : List ℕ → List ℕ → List ℕ → List ℕ → ℕ → Bool
-held_in hexes quads segments points v = has v hexes || (has v quads || (has v segments || has v points))
+-- each number of the one is in the other
+abbrev pub within : List ℕ → List ℕ → Bool
+within a b = list_all (λ (x : ℕ). has x b) a
 
-abbrev pub isolated_in : List ℕ → List ℕ → List ℕ → List ℕ → ℕ → Bool
-isolated_in hexes quads segments points v = not (held_in hexes quads segments points v)
+-- a cell names the vertex
+abbrev pub held_in : Mesh → ℕ → Bool
+held_in m v = has v m.hexes || (has v m.quads || (has v m.segments || has v m.points))
+
+abbrev pub isolated_in : Mesh → ℕ → Bool
+isolated_in m v = not (held_in m v)

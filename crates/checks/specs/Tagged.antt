@@ -1,11 +1,12 @@
 -- Words of inner contracts: a table of keys in a list of numbers, with a tag for each key: the keys in front, as the numbering keeps
 -- them, and the tags behind them.
-use Rattle.std.specs.Prelude.{◌≡◌, List, ℕ, ◌+◌, ◌≤◌, ◌<◌, length, get_or, take}
+use Rattle.std.specs.Prelude.{◌≡◌, Result, Ok, Err, List, ℕ, ◌+◌, ◌≤◌, ◌<◌, length, get_or, take}
 use Rattle.rules.specs.Lists.{Key, index_of, meet}
 use Rattle.lists.specs.Membership.{In}
 use Rattle.numbering.specs.Table.{words_for, keys, Table}
-use Rattle.checks.specs.declared.tagged.Met.{Met}
-use Rattle.checks.specs.declared.tagged.Met.TheVariants.{Agrees, Differs, Full}
+use Rattle.checks.specs.declared.tagged.TaggedKeys.{TaggedKeys}
+use Rattle.checks.specs.declared.tagged.Stopped.{Stopped}
+use Rattle.checks.specs.declared.tagged.Stopped.TheVariants.{Differs, Full}
 
 -- the table of keys of c numbers, with room for so many
 abbrev pub front : ℕ → ℕ → List ℕ → List ℕ
@@ -34,7 +35,28 @@ pub record Differed (c : ℕ) (w : List ℕ) (room n : ℕ) (k : Key) (t : ℕ) 
   pub known : In k (keys c (front c room w) room n)
   pub other : beside c room w (index_of k (keys c (front c room w) room n)) ≡ t → ⊥
 
-abbrev pub TagMet : ℕ → List ℕ → List ℕ → ℕ → ℕ → Key → ℕ → Met → Type 0
-TagMet c w w' room n k t (Agrees count) = Agreed c w w' room n count k t
-TagMet c w w' room n k t Differs = Differed c w room n k t
-TagMet c w w' room n k t Full = Unit {0}
+abbrev pub TagMet : ℕ → List ℕ → List ℕ → ℕ → ℕ → Key → ℕ → Result ℕ Stopped → Type 0
+TagMet c w w' room n k t (Ok count) = Agreed c w w' room n count k t
+TagMet c w w' room n k t (Err Differs) = Differed c w room n k t
+TagMet c w w' room n k t (Err Full) = Unit {0}
+
+-- ---- the same of a table as a value
+
+-- it holds keys of c numbers and their tags
+abbrev pub Holds : ℕ → TaggedKeys → Type 0
+Holds c t = Tagged c t.words.now t.room t.known
+
+-- the same table, whatever was met: its memory is the one that was lent, as long as it was
+pub record SameTable (old new : TaggedKeys) : Type 0 where
+  pub words : new.words.ghost_name ≡ old.words.ghost_name
+  pub len : length new.words.now ≡ length old.words.now
+  pub room : new.room ≡ old.room
+
+-- with how many keys there are then
+abbrev pub counted : Result (Unit {0}) Stopped → ℕ → Result ℕ Stopped
+counted (Ok u) n = Ok n
+counted (Err e) n = Err e
+
+-- a key with a tag was met
+abbrev pub KeyMet : ℕ → TaggedKeys → TaggedKeys → Key → ℕ → Result (Unit {0}) Stopped → Type 0
+KeyMet c old new k t r = TagMet c old.words.now new.words.now old.room old.known k t (counted r new.known)

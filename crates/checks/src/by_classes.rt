@@ -1,71 +1,57 @@
 // Checks 6 and 7 and the counts of edges and faces, class by class; with too little memory for that, part by part. Check 6 and the edges
 // come here where a table of all keys was full: they begin with two classes.
-ghost use Rattle.std.specs.Prelude.{◌≡◌, false, [], map, ◌≤◌, ◌<◌, eqb};
+ghost use Rattle.std.specs.Prelude.{◌≡◌, false, map, ◌≤◌, ◌<◌, eqb};
 ghost use Rattle.rules.specs.Lists.{any, repeats, cut, key_of, same};
-ghost use Rattle.rules.specs.Mesh.{mesh, topology};
-ghost use Rattle.rules.specs.Refusals.{repeated_corner};
-ghost use Rattle.checks.specs.Walk.{count_in};
+ghost use Rattle.tables.specs.Lent.{mesh_in};
+ghost use Rattle.checks.specs.Walk.{parts_counted};
 ghost use Rattle.checks.specs.Checked.{FacesChecked};
 
-use crate::classes::{Verdict, Walk};
+use crate::cells::PlainMesh;
+use crate::classes::Walk;
+use crate::parts::Part;
+use crate::tagged::Stopped;
 use crate::{classes, pairwise};
+use rules::Refusal;
 
-// What check 7 finds: how many faces there are; or that two have one corner set and different neighbours in going round.
-#[derive(Clone, Copy)]
-pub enum Faces {
-    Matching(usize),
-    Mismatched,
-}
-
-// Whether two cells of a table have one corner set; a cell has k corners.
-pub fn has_duplicate(words: &mut [u32], k: usize, cells: &[u32]) -> bool
-    requires k_in_range { (0 < k) × (k ≤ 8) }
-    requires no_repeated_corner { any (repeats eqb) (cut k cells.now) ≡ false }
-    ensures { result ≡ repeats same (map key_of (cut k cells.now)) }
+// Whether two cells of a table have one corner set; a cell has C corners.
+pub fn has_duplicate<const C: usize>(words: &mut [u32], cells: &[u32]) -> bool
+    requires few { (0 < C) × (C ≤ 8) }
+    requires no_repeated_corner { any (repeats eqb) (cut C cells.now) ≡ false }
+    ensures { result ≡ repeats same (map key_of (cut C cells.now)) }
 {
-    let mut key = [0u32; 8];
-    let found = classes::find(words, Walk::Cells, cells, cells, cells, &mut key[..k], 2);
-    let Verdict::Passes(n) = found else {
-        return pairwise::has_duplicate(k, cells);
-    };
-    n != cells.len() / k
+    match classes::find::<C>(words, Walk::Cells(cells), 2) {
+        Ok(n) => n != cells.len() / C,
+        Err(_) => pairwise::has_duplicate(C, cells),
+    }
 }
 
 // Check 7 face by face.
-fn check_faces_pairwise(hexes: &[u32], quads: &[u32], segments: &[u32]) -> Faces
-    requires { repeated_corner (topology (mesh [] hexes.now quads.now segments.now [])) ≡ false }
-    ensures { FacesChecked hexes.now quads.now segments.now result }
+fn check_faces_pairwise(mesh: PlainMesh) -> Result<usize, Refusal>
+    ensures { FacesChecked (mesh_in mesh.entry.tables) result }
 {
-    if pairwise::has_mismatched_face(hexes, quads, segments) {
-        return Faces::Mismatched;
+    if pairwise::has_mismatched_face(mesh) {
+        return Err(Refusal::MismatchedFace);
     }
-    let n = pairwise::count_distinct(2, hexes, quads, segments);
-    Faces::Matching(n)
+    Ok(pairwise::count_distinct(Part::Face, mesh))
 }
 
 // Check 7, which meets all faces and counts them by the way.
-pub fn check_faces(words: &mut [u32], hexes: &[u32], quads: &[u32], segments: &[u32]) -> Faces
-    requires { repeated_corner (topology (mesh [] hexes.now quads.now segments.now [])) ≡ false }
-    ensures { FacesChecked hexes.now quads.now segments.now result }
+pub fn check_faces(words: &mut [u32], mesh: PlainMesh) -> Result<usize, Refusal>
+    ensures { FacesChecked (mesh_in mesh.entry.tables) result }
 {
-    let mut key = [0u32; 4];
-    let found = classes::find(words, Walk::Faces, hexes, quads, segments, &mut key, 1);
-    match found {
-        Verdict::Passes(n) => Faces::Matching(n),
-        Verdict::Fails => Faces::Mismatched,
-        Verdict::Unknown => check_faces_pairwise(hexes, quads, segments),
+    match classes::find::<4>(words, Walk::Faces(mesh.tables), 1) {
+        Ok(n) => Ok(n),
+        Err(Stopped::Differs) => Err(Refusal::MismatchedFace),
+        Err(Stopped::Full) => check_faces_pairwise(mesh),
     }
 }
 
 // How many edges there are.
-pub fn edge_count(words: &mut [u32], hexes: &[u32], quads: &[u32], segments: &[u32]) -> usize
-    requires { repeated_corner (topology (mesh [] hexes.now quads.now segments.now [])) ≡ false }
-    ensures { result ≡ count_in 1 hexes.now quads.now segments.now }
+pub fn edge_count(words: &mut [u32], mesh: PlainMesh) -> usize
+    ensures { result ≡ parts_counted Part.Edge mesh.entry.tables }
 {
-    let mut key = [0u32; 2];
-    let found = classes::find(words, Walk::Edges, hexes, quads, segments, &mut key, 2);
-    let Verdict::Passes(n) = found else {
-        return pairwise::count_distinct(1, hexes, quads, segments);
-    };
-    n
+    match classes::find::<2>(words, Walk::Edges(mesh.tables), 2) {
+        Ok(n) => n,
+        Err(_) => pairwise::count_distinct(Part::Edge, mesh),
+    }
 }

@@ -1,34 +1,34 @@
 // Check 5, which looks at each cell by itself.
-ghost use Rattle.std.specs.Prelude.{◌≡◌, ◌<◌, eqb};
+ghost use Rattle.std.specs.Prelude.{◌≡◌, false, [], ◌<◌, eqb, length, get_or};
 ghost use Rattle.rules.specs.Lists.{any, repeats, cut, has};
-ghost use Rattle.rules.specs.Mesh.{mesh, topology};
+ghost use Rattle.rules.specs.Mesh.{topology};
 ghost use Rattle.rules.specs.Refusals.{repeated_corner};
+ghost use Rattle.tables.specs.Lent.{mesh_in};
+
+use tables::MeshTables;
+
+// A mesh in which no cell names a corner twice.
+#[derive(Clone, Copy)]
+pub struct PlainMesh<'a> {
+    pub tables: MeshTables<'a>,
+    ghost plain: { repeated_corner (topology (mesh_in tables)) ≡ false },
+}
 
 // Whether x is among the numbers.
 pub fn has_number(x: u32, ys: &[u32]) -> bool
     ensures { result ≡ has x ys.now }
 {
-    let mut i = 0;
-    while i < ys.len() {
-        if x == ys[i] {
-            return true;
-        }
-        i += 1;
-    }
-    false
+    ys.contains(&x)
 }
 
 // Whether a cell names a corner twice.
 pub fn has_repeat(cell: &[u32]) -> bool
     ensures { result ≡ repeats eqb cell.now }
 {
-    let mut i = 0;
-    while i < cell.len() {
-        let next = i + 1;
-        if has_number(cell[i], &cell[next..]) {
+    for i in 0..cell.len() {
+        if has_number(cell[i], &cell[i + 1..]) {
             return true;
         }
-        i = next;
     }
     false
 }
@@ -38,30 +38,27 @@ pub fn any_repeat(k: usize, table: &[u32]) -> bool
     requires { 0 < k }
     ensures { result ≡ any (repeats eqb) (cut k table.now) }
 {
-    let n = table.len() / k;
-    let mut c = 0;
-    while c < n {
-        let start = k * c;
-        let end = start + k;
-        if has_repeat(&table[start..end]) {
-            return true;
-        }
-        c += 1;
-    }
-    false
+    table.chunks_exact(k).any(has_repeat)
+}
+
+// Reads the corners of cell i of a table.
+#[tactic(auto, using(crate::proofs::Slices::entry_within, crate::proofs::Slices::entry_part))]
+pub fn read(table: &[u32], i: usize, corners: &mut [u32])
+    requires { i < length (cut (length corners.old) table.now) }
+    ensures { corners.new ≡ get_or (cut (length corners.old) table.now) i [] }
+{
+    let k = corners.len();
+    let at = k * i;
+    corners.copy_from_slice(&table[at..at + k]);
 }
 
 // 5, repeated corner (rule 7.5).
-pub fn has_repeated_corner(
-    xs: &[i32],
-    hexes: &[u32],
-    quads: &[u32],
-    segments: &[u32],
-    points: &[u32],
-) -> bool
-    ensures { result ≡ repeated_corner (topology
-        (mesh xs.now hexes.now quads.now segments.now points.now)) }
+#[tactic(auto, using(crate::proofs::ByKind::repeat_tables))]
+pub fn has_repeated_corner(mesh: MeshTables) -> bool
+    ensures { result ≡ repeated_corner (topology (mesh_in mesh.entry)) }
 {
-    any_repeat(8, hexes)
-        || (any_repeat(4, quads) || (any_repeat(2, segments) || any_repeat(1, points)))
+    any_repeat(8, mesh.hexes)
+        || any_repeat(4, mesh.quads)
+        || any_repeat(2, mesh.segments)
+        || any_repeat(1, mesh.points)
 }

@@ -3,62 +3,56 @@
 // as many classes as it takes for the table of one to fit the memory.
 ghost use Rattle.std.specs.Prelude.{◌≡◌, [], ◌^◌, ◌≤◌, ◌<◌, length, get_or};
 ghost use Rattle.rules.specs.Lists.{keep};
-ghost use Rattle.checks.specs.Tagged.{Tagged};
-ghost use Rattle.checks.specs.Classes.{walked, Size, tag_for, squared, class_of, in_class, ClassMet, Found};
+ghost use Rattle.checks.specs.Tagged.{Holds, SameTable};
+ghost use Rattle.checks.specs.Classes.{walked, Size, tag_for, squared, class_of, in_class, CornersMet, Found};
 
-use crate::tagged::Met;
-use crate::{faces, parts, tagged};
+use crate::parts::Part;
+use crate::tagged::{Stopped, TaggedKeys};
+use crate::{cells, faces, parts};
+use tables::MeshTables;
 
-// What is walked: the edges of three tables; their faces, told apart by how they go round; the cells of the first table.
+// What is walked: the edges of a mesh; its faces, told apart by how they go round; the cells of a flat table.
 #[derive(Clone, Copy)]
-pub enum Walk {
-    Edges,
-    Faces,
-    Cells,
+pub enum Walk<'a> {
+    Edges(MeshTables<'a>),
+    Faces(MeshTables<'a>),
+    Cells(&'a [u32]),
 }
 
-// What is found: how many corner sets there are; or two with one corner set that are told apart; or nothing, with too little memory.
+// One of so many classes.
 #[derive(Clone, Copy)]
-pub enum Verdict {
-    Passes(usize),
-    Fails,
-    Unknown,
+struct Class {
+    number: usize,
+    count: usize,
 }
 
 // How many edges, faces or cells are walked, each counted as often as it is met; a cell has k corners.
-fn count_of(of: Walk, k: usize, hexes: &[u32], quads: &[u32], segments: &[u32]) -> usize
+#[tactic(auto, using(lists::proofs::Tables::length_cut))]
+fn count_of(of: Walk, k: usize) -> usize
     requires { Size of k }
-    ensures { result ≡ length (walked of k hexes.now quads.now segments.now) }
+    ensures { result ≡ length (walked of.entry k) }
 {
     match of {
-        Walk::Edges => parts::part_count(1, hexes, quads, segments),
-        Walk::Faces => parts::part_count(2, hexes, quads, segments),
-        Walk::Cells => hexes.len() / k,
+        Walk::Edges(mesh) => parts::part_count(Part::Edge, mesh),
+        Walk::Faces(mesh) => parts::part_count(Part::Face, mesh),
+        Walk::Cells(table) => table.len() / k,
     }
 }
 
-// Reads the corners of number i of them.
-fn read(of: Walk, hexes: &[u32], quads: &[u32], segments: &[u32], i: usize, corners: &mut [u32])
-    requires size { Size of (length corners.old) }
-    requires i_in_bounds { i < length (walked of (length corners.old) hexes.now quads.now segments.now) }
-    ensures { corners.new ≡ get_or (walked of (length corners.old) hexes.now quads.now segments.now) i [] }
+// The corners of number i of them. Each kind has a call of its own: so the compiler knows how many parts a cell has.
+fn corners_at<const C: usize>(of: Walk, i: usize) -> [u32; C]
+    requires few { C ≤ 8 }
+    requires size { Size of C }
+    requires i_in_bounds { i < length (walked of C) }
+    ensures { result ≡ get_or (walked of.entry C) i [] }
 {
+    let mut corners = [0u32; C];
     match of {
-        Walk::Edges => {
-            let part = parts::part_at(1, hexes, quads, segments, i);
-            memory::copy_u32(&part[..2], corners);
-        }
-        Walk::Faces => {
-            let part = parts::part_at(2, hexes, quads, segments, i);
-            memory::copy_u32(&part, corners);
-        }
-        Walk::Cells => {
-            let k = corners.len();
-            let at = k * i;
-            let end = at + k;
-            memory::copy_u32(&hexes[at..end], corners);
-        }
+        Walk::Edges(mesh) => parts::read(Part::Edge, mesh, i, &mut corners),
+        Walk::Faces(mesh) => parts::read(Part::Face, mesh, i, &mut corners),
+        Walk::Cells(table) => cells::read(table, i, &mut corners),
     }
+    corners
 }
 
 fn square(x: u32) -> usize
@@ -77,10 +71,8 @@ fn class_of(corners: &[u32], classes: usize) -> usize
         return 0;
     }
     let mut sum = 0;
-    let mut i = 0;
-    while i < corners.len() {
-        sum += square(corners[i]);
-        i += 1;
+    for corner in corners {
+        sum += square(*corner);
     }
     sum % 4294967296 * 1640531527 % 4294967296 * classes / 4294967296
 }
@@ -88,124 +80,103 @@ fn class_of(corners: &[u32], classes: usize) -> usize
 // What tells two apart that have one corner set.
 fn tag_of(of: Walk, corners: &[u32]) -> u32
     requires { Size of (length corners.now) }
-    ensures { result ≡ tag_for of corners.now }
+    ensures { result ≡ tag_for of.entry corners.now }
 {
     match of {
-        Walk::Faces => faces::across([corners[0], corners[1], corners[2], corners[3]]),
-        Walk::Edges | Walk::Cells => 0,
+        Walk::Faces(_) => faces::across([corners[0], corners[1], corners[2], corners[3]]),
+        Walk::Edges(_) | Walk::Cells(_) => 0,
     }
 }
 
-// Meets corners in a table of n keys if they are in the class.
-fn meet_in_class(
-    w: &mut [u32],
-    room: usize,
-    n: usize,
+// Meets corners in a table if they are in the class.
+fn meet_in_class<const C: usize>(
+    table: &mut TaggedKeys,
     of: Walk,
-    corners: &mut [u32],
-    class: usize,
-    classes: usize,
-) -> Met
-    requires size { Size of (length corners.old) }
-    requires classes_bound { classes ≤ 1024 }
-    requires tagged { Tagged (length corners.old) w.old room n }
-    ensures { ClassMet classes class corners.old (length corners.old) w.old w.new room n
-        (tag_for of corners.old) result }
+    corners: [u32; C],
+    class: Class,
+) -> Result<(), Stopped>
+    requires few { C ≤ 8 }
+    requires size { Size of C }
+    requires classes_bound { class.count ≤ 1024 }
+    requires holds { Holds C table.old }
+    ensures same_table { SameTable table.old table.new }
+    ensures met { CornersMet class C table.old table.new corners.entry (tag_for of.entry corners.entry) result }
 {
-    if class_of(corners, classes) != class {
-        return Met::Agrees(n);
+    if class_of(&corners, class.count) != class.number {
+        return Ok(());
     }
-    let tag = tag_of(of, corners);
-    tagged::meet_corners(w, room, n, corners, tag)
+    let tag = tag_of(of, &corners);
+    table.meet_corners(corners, tag)
 }
 
-// Goes over one class.
-fn sweep(
+// Goes over one class, of so many that are walked in all; the answer is how many corner sets it has.
+#[tactic(auto, using(crate::proofs::Sweeps::sweep_start, crate::proofs::Sweeps::sweep_tagged, crate::proofs::Sweeps::sweep_turn, crate::proofs::Sweeps::sweep_end, crate::proofs::Sweeps::sweep_stops))]
+fn sweep<const C: usize>(
     w: &mut [u32],
     of: Walk,
-    hexes: &[u32],
-    quads: &[u32],
-    segments: &[u32],
-    key: &mut [u32],
-    class: usize,
-    classes: usize,
-) -> Verdict
+    count: usize,
+    class: Class,
+) -> Result<usize, Stopped>
     requires w_nonzero { 0 < length w.old }
-    requires size { Size of (length key.old) }
-    requires classes_bound { classes ≤ 1024 }
-    ensures { Found of (keep (in_class classes class)
-        (walked of (length key.old) hexes.now quads.now segments.now)) result }
+    requires few { C ≤ 8 }
+    requires size { Size of C }
+    requires count_value { count ≡ length (walked of C) }
+    requires classes_bound { class.count ≤ 1024 }
+    ensures { Found of.entry (keep (in_class class) (walked of.entry C)) result }
 {
-    let count = count_of(of, key.len(), hexes, quads, segments);
-    let room = tagged::prepare(w, key.len(), count);
-    let mut n = 0;
-    let mut i = 0;
-    while i < count {
-        read(of, hexes, quads, segments, i, key);
-        let met = meet_in_class(w, room, n, of, key, class, classes);
-        match met {
-            Met::Agrees(more) => n = more,
-            Met::Differs => return Verdict::Fails,
-            Met::Full => return Verdict::Unknown,
-        }
-        i += 1;
+    let mut table = TaggedKeys::new(w, C, count);
+    for i in 0..count {
+        let corners = corners_at::<C>(of, i);
+        meet_in_class(&mut table, of, corners, class)?;
     }
-    Verdict::Passes(n)
+    Ok(table.known)
 }
 
 // Goes over so many classes, one after the other.
-fn sweep_all(
+#[tactic(auto, using(crate::proofs::Sweeps::found_all))]
+fn sweep_all<const C: usize>(
     w: &mut [u32],
     of: Walk,
-    hexes: &[u32],
-    quads: &[u32],
-    segments: &[u32],
-    key: &mut [u32],
+    count: usize,
     classes: usize,
-) -> Verdict
+) -> Result<usize, Stopped>
     requires w_nonzero { 0 < length w.old }
-    requires size { Size of (length key.old) }
+    requires few { C ≤ 8 }
+    requires size { Size of C }
+    requires count_value { count ≡ length (walked of C) }
     requires classes_in_range { (0 < classes) × (classes ≤ 1024) }
-    ensures { Found of (walked of (length key.old) hexes.now quads.now segments.now) result }
+    ensures { Found of.entry (walked of.entry C) result }
 {
     let mut n = 0;
-    let mut class = 0;
-    while class < classes {
-        let found = sweep(w, of, hexes, quads, segments, key, class, classes);
-        let Verdict::Passes(more) = found else {
-            return found;
+    for number in 0..classes {
+        let class = Class {
+            number,
+            count: classes,
         };
-        n += more;
-        class += 1;
+        n += sweep::<C>(w, of, count, class)?;
     }
-    Verdict::Passes(n)
+    Ok(n)
 }
 
-// Goes over all of them, in `fewest` classes or more, up to 1024, until each class fits the memory. A class that does not fit is given up
-// before its end: that costs less than one class too many.
-pub fn find(
-    w: &mut [u32],
-    of: Walk,
-    hexes: &[u32],
-    quads: &[u32],
-    segments: &[u32],
-    key: &mut [u32],
-    fewest: usize,
-) -> Verdict
-    requires size { Size of (length key.old) }
+// Goes over all of them, of C corners each, in `fewest` classes or more, up to 1024, until each class fits the memory. A class that does not
+// fit is given up before its end: that costs less than one class too many.
+pub fn find<const C: usize>(w: &mut [u32], of: Walk, fewest: usize) -> Result<usize, Stopped>
+    requires few { C ≤ 8 }
+    requires size { Size of C }
     requires fewest_nonzero { 0 < fewest }
-    ensures { Found of (walked of (length key.old) hexes.now quads.now segments.now) result }
+    ensures { Found of.entry (walked of.entry C) result }
 {
-    if w.len() == 0 {
-        return Verdict::Unknown;
+    if w.is_empty() {
+        return Err(Stopped::Full);
     }
+    let count = count_of(of, C);
     let mut classes = fewest;
+    // The steps grow, so this is no range.
     while classes <= 1024 {
-        let found = sweep_all(w, of, hexes, quads, segments, key, classes);
-        let Verdict::Unknown = found else {
-            return found;
-        };
-        classes += 1 + classes / 8;
+        match sweep_all::<C>(w, of, count, classes) {
+            Err(Stopped::Full) => classes += 1 + classes / 8,
+            found => return found,
+        }
     }
-    Verdict::Unknown
+    Err(Stopped::Full)
 }

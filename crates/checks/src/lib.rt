@@ -9,19 +9,23 @@
 // compared with each other one. What the lent numbers hold afterwards is left free.
 #![tactic(auto)]
 
-ghost use Rattle.std.specs.Prelude.{◌≡◌, false, [], map, ◌≤◌, ◌<◌, eqb, length};
+ghost use Rattle.std.specs.Prelude.{◌≡◌, false, map, ◌≤◌, ◌<◌, eqb, length};
 ghost use Rattle.rules.specs.Lists.{any, repeats, cut, key_of, same};
-ghost use Rattle.rules.specs.Mesh.{mesh, topology};
+ghost use Rattle.rules.specs.Mesh.{topology};
 ghost use Rattle.rules.specs.Split.{faces};
 ghost use Rattle.rules.specs.Counts.{sizes};
-ghost use Rattle.rules.specs.Refusals.{partial_entry, repeated_corner, duplicate_cell, isolated_vertex, table_checks};
+ghost use Rattle.rules.specs.Refusals.{repeated_corner, duplicate_cell, table_checks};
+ghost use Rattle.tables.specs.Lent.{mesh_in};
 ghost use Rattle.numbering.specs.Parts.{part_corners, cell_corners};
-ghost use Rattle.checks.specs.Walk.{count_in};
+ghost use Rattle.checks.specs.Walk.{parts_counted};
 ghost use Rattle.checks.specs.Checked.{MeshChecked};
 
+use crate::cells::PlainMesh;
+use crate::parts::Part;
 use numbering::count;
-use numbering::parts::{Parts, Tally};
-use rules::Sizes;
+use numbering::parts::Parts;
+use rules::{Refusal, Sizes};
+use tables::MeshTables;
 
 // Checks 6 and 7 and the counts of parts, class by class.
 pub mod by_classes;
@@ -38,105 +42,54 @@ pub mod pairwise;
 // The edges and faces by number.
 pub mod parts;
 // The tables: checks 1 to 4.
-pub mod tables;
+pub mod table_checks;
 // A table of keys with tags.
 pub mod tagged;
 
-// What the checks 1 to 8 find of a mesh: the number of the first that fails, 0 where none does; and, of a mesh that passes, how many faces
-// it has, since check 7 meets them all.
-#[derive(Clone, Copy)]
-pub struct Checked {
-    pub refusal: u32,
-    pub faces: usize,
-}
-
-// Whether two cells of a table have one corner set; the parts are the cells themselves.
-fn has_duplicate(words: &mut [u32], of: Parts, cells: &[u32]) -> bool
-    requires whole_cells { part_corners of ≡ cell_corners of }
-    requires no_repeated_corner { any (repeats eqb) (cut (cell_corners of) cells.now) ≡ false }
-    ensures { result ≡ repeats same (map key_of (cut (cell_corners of) cells.now)) }
+// Whether two cells of a table have one corner set; a cell has C corners, and the parts are the cells themselves.
+#[tactic(auto, using(crate::proofs::Duplicates::duplicates_by_count, crate::proofs::Duplicates::cell_keys))]
+fn has_duplicate<const C: usize>(words: &mut [u32], of: Parts, cells: &[u32]) -> bool
+    requires whole_cells { (C ≡ cell_corners of) × (part_corners of ≡ cell_corners of) }
+    requires no_repeated_corner { any (repeats eqb) (cut C cells.now) ≡ false }
+    ensures { result ≡ repeats same (map key_of (cut C cells.now)) }
 {
-    let k = numbering::parts::corners_of(of);
-    let mut key = [0u32; 8];
-    let tally = count::count_table(words, of, cells, &mut key[..k]);
-    match tally {
-        Tally::Keys(n) => n != cells.len() / k,
-        Tally::Full => by_classes::has_duplicate(words, k, cells),
+    match count::count_table(words, of, cells) {
+        Some(n) => n != cells.len() / C,
+        None => by_classes::has_duplicate::<C>(words, cells),
     }
 }
 
 // 6, duplicate cell (rule 7.6).
-fn has_duplicate_cell(
-    words: &mut [u32],
-    xs: &[i32],
-    hexes: &[u32],
-    quads: &[u32],
-    segments: &[u32],
-    points: &[u32],
-) -> bool
-    requires { repeated_corner (topology (mesh xs.now hexes.now quads.now segments.now points.now)) ≡ false }
-    ensures { result ≡ duplicate_cell (topology
-        (mesh xs.now hexes.now quads.now segments.now points.now)) }
+#[tactic(auto, using(crate::proofs::ByKind::duplicate_tables))]
+fn has_duplicate_cell(words: &mut [u32], mesh: PlainMesh) -> bool
+    ensures { result ≡ duplicate_cell (topology (mesh_in mesh.entry.tables)) }
 {
-    has_duplicate(words, Parts::Hexes, hexes)
-        || (has_duplicate(words, Parts::Quads, quads)
-            || (has_duplicate(words, Parts::Segments, segments)
-                || has_duplicate(words, Parts::Points, points)))
+    has_duplicate::<8>(words, Parts::Hexes, mesh.tables.hexes)
+        || has_duplicate::<4>(words, Parts::Quads, mesh.tables.quads)
+        || has_duplicate::<2>(words, Parts::Segments, mesh.tables.segments)
+        || has_duplicate::<1>(words, Parts::Points, mesh.tables.points)
 }
 
-// 8, isolated vertex (rule 7.8).
-fn has_isolated_vertex(
-    words: &mut [u32],
-    xs: &[i32],
-    hexes: &[u32],
-    quads: &[u32],
-    segments: &[u32],
-    points: &[u32],
-) -> bool
+// 5 to 8 in order, of a mesh that passes 1 to 4, with these numbers; the answer is how many faces it has, since check 7 meets them all.
+#[tactic(auto, using(crate::proofs::Passed::tables_pass, crate::proofs::Passed::cells_decide))]
+fn check_cells_with(words: &mut [u32], mesh: MeshTables) -> Result<usize, Refusal>
     requires words_nonzero { 0 < length words.old }
-    requires whole_tables { partial_entry (mesh xs.now hexes.now quads.now segments.now points.now) ≡ false }
-    ensures { result ≡ isolated_vertex (topology
-        (mesh xs.now hexes.now quads.now segments.now points.now)) }
+    requires tables_pass { table_checks (mesh_in mesh) 0 ≡ 0 }
+    ensures { MeshChecked (mesh_in mesh.entry) result }
 {
-    let n = xs.len() / 3;
-    marks::has_isolated_vertex(words, n, hexes, quads, segments, points)
-}
-
-// A mesh that is refused: its faces are not asked for.
-fn refused(refusal: u32) -> Checked
-    ensures { result.refusal ≡ refusal }
-{
-    Checked { refusal, faces: 0 }
-}
-
-// 5 to 8 in order, of a mesh that passes 1 to 4, with these numbers.
-fn check_cells_with(
-    words: &mut [u32],
-    xs: &[i32],
-    hexes: &[u32],
-    quads: &[u32],
-    segments: &[u32],
-    points: &[u32],
-) -> Checked
-    requires words_nonzero { 0 < length words.old }
-    requires tables_pass { table_checks (mesh xs.now hexes.now quads.now segments.now points.now) 0 ≡ 0 }
-    ensures { MeshChecked (mesh xs.now hexes.now quads.now segments.now points.now) result }
-{
-    if cells::has_repeated_corner(xs, hexes, quads, segments, points) {
-        return refused(5);
+    if cells::has_repeated_corner(mesh) {
+        return Err(Refusal::RepeatedCorner);
     }
-    if has_duplicate_cell(words, xs, hexes, quads, segments, points) {
-        return refused(6);
+    let plain = PlainMesh { tables: mesh };
+    if has_duplicate_cell(words, plain) {
+        return Err(Refusal::DuplicateCell);
     }
     // 7, mismatched face (rule 7.7).
-    let met = by_classes::check_faces(words, hexes, quads, segments);
-    let by_classes::Faces::Matching(faces) = met else {
-        return refused(7);
-    };
-    if has_isolated_vertex(words, xs, hexes, quads, segments, points) {
-        return refused(8);
+    let faces = by_classes::check_faces(words, plain)?;
+    if marks::has_isolated_vertex(words, mesh) {
+        return Err(Refusal::IsolatedVertex);
     }
-    Checked { refusal: 0, faces }
+    Ok(faces)
 }
 
 // Whether an array of 8192 numbers serves better than so many lent ones: these are fewer, and may not hold the edges and faces of cells with
@@ -148,96 +101,68 @@ pub fn is_little(words: usize, corners: usize) -> bool
 }
 
 // 5 to 8 in order. Where little is lent, an array of its own serves instead.
-fn check_cells(
-    words: &mut [u32],
-    xs: &[i32],
-    hexes: &[u32],
-    quads: &[u32],
-    segments: &[u32],
-    points: &[u32],
-) -> Checked
-    requires { table_checks (mesh xs.now hexes.now quads.now segments.now points.now) 0 ≡ 0 }
-    ensures { MeshChecked (mesh xs.now hexes.now quads.now segments.now points.now) result }
+fn check_cells(words: &mut [u32], mesh: MeshTables) -> Result<usize, Refusal>
+    requires { table_checks (mesh_in mesh) 0 ≡ 0 }
+    ensures { MeshChecked (mesh_in mesh.entry) result }
 {
-    let corners = hexes.len() + (quads.len() + (segments.len() + points.len()));
+    let corners = mesh.hexes.len() + mesh.quads.len() + mesh.segments.len() + mesh.points.len();
     if is_little(words.len(), corners) {
-        let mut own = [0u32; 8192];
-        return check_cells_with(&mut own, xs, hexes, quads, segments, points);
+        return check_cells_with(&mut [0u32; 8192], mesh);
     }
-    check_cells_with(words, xs, hexes, quads, segments, points)
+    check_cells_with(words, mesh)
 }
 
-// 1 to 8 in order.
-pub fn check_mesh(
-    xs: &[i32],
-    hexes: &[u32],
-    quads: &[u32],
-    segments: &[u32],
-    points: &[u32],
-    words: &mut [u32],
-) -> Checked
-    ensures { MeshChecked (mesh xs.now hexes.now quads.now segments.now points.now) result }
+// 1 to 8 in order: the first that fails; of a mesh that passes them, how many faces it has.
+#[tactic(auto, using(crate::proofs::Passed::tables_refuse))]
+pub fn check_mesh(mesh: MeshTables, words: &mut [u32]) -> Result<usize, Refusal>
+    ensures { MeshChecked (mesh_in mesh.entry) result }
 {
-    let refusal = tables::table_refusal(xs, hexes, quads, segments, points);
-    if refusal != 0 {
-        return refused(refusal);
-    }
-    check_cells(words, xs, hexes, quads, segments, points)
+    table_checks::check_tables(mesh)?;
+    check_cells(words, mesh)
 }
 
 // How many edges there are, with these numbers.
-fn edge_count_with(words: &mut [u32], hexes: &[u32], quads: &[u32], segments: &[u32]) -> usize
-    requires { repeated_corner (topology (mesh [] hexes.now quads.now segments.now [])) ≡ false }
-    ensures { result ≡ count_in 1 hexes.now quads.now segments.now }
+#[tactic(auto, using(crate::proofs::Duplicates::edge_keys_lem))]
+fn edge_count_with(words: &mut [u32], mesh: PlainMesh) -> usize
+    ensures { result ≡ parts_counted Part.Edge mesh.entry.tables }
 {
-    let tally = count::count_edges(words, hexes, quads, segments);
-    match tally {
-        Tally::Keys(n) => n,
-        Tally::Full => by_classes::edge_count(words, hexes, quads, segments),
+    match count::count_edges(
+        words,
+        mesh.tables.hexes,
+        mesh.tables.quads,
+        mesh.tables.segments,
+    ) {
+        Some(n) => n,
+        None => by_classes::edge_count(words, mesh),
     }
 }
 
 // How many edges there are; an array of its own serves as above. Segments by themselves are edges, each its own: no two have one corner
 // set.
-fn edge_count(words: &mut [u32], hexes: &[u32], quads: &[u32], segments: &[u32]) -> usize
-    requires no_repeated_corner { repeated_corner (topology (mesh [] hexes.now quads.now segments.now [])) ≡ false }
-    requires no_duplicate_segment { repeats same (map key_of (cut 2 segments.now)) ≡ false }
-    ensures { result ≡ count_in 1 hexes.now quads.now segments.now }
+fn edge_count(words: &mut [u32], mesh: PlainMesh) -> usize
+    requires { duplicate_cell (topology (mesh_in mesh.tables)) ≡ false }
+    ensures { result ≡ parts_counted Part.Edge mesh.entry.tables }
 {
-    if hexes.len() == 0 && quads.len() == 0 {
-        return segments.len() / 2;
+    if mesh.tables.hexes.is_empty() && mesh.tables.quads.is_empty() {
+        return mesh.tables.segments.len() / 2;
     }
-    let corners = hexes.len() + (quads.len() + segments.len());
+    let corners = mesh.tables.hexes.len() + mesh.tables.quads.len() + mesh.tables.segments.len();
     if is_little(words.len(), corners) {
-        let mut own = [0u32; 8192];
-        return edge_count_with(&mut own, hexes, quads, segments);
+        return edge_count_with(&mut [0u32; 8192], mesh);
     }
-    edge_count_with(words, hexes, quads, segments)
+    edge_count_with(words, mesh)
 }
 
 // The sizes of a mesh that passes checks 5 and 6 and whose faces are counted: what its finished counts follow from.
-pub fn mesh_sizes(
-    xs: &[i32],
-    hexes: &[u32],
-    quads: &[u32],
-    segments: &[u32],
-    points: &[u32],
-    face_count: usize,
-    words: &mut [u32],
-) -> Sizes
-    requires no_repeated_corner { repeated_corner (topology (mesh xs.now hexes.now quads.now segments.now points.now)) ≡ false }
-    requires no_duplicate_cell { duplicate_cell (topology (mesh xs.now hexes.now quads.now segments.now points.now)) ≡ false }
-    requires face_count_value { face_count ≡ length (faces (topology (mesh xs.now hexes.now quads.now segments.now points.now))) }
-    ensures { result ≡ sizes (topology (mesh xs.now hexes.now quads.now segments.now points.now)) }
+pub fn mesh_sizes(mesh: MeshTables, face_count: usize, words: &mut [u32]) -> Sizes
+    requires no_repeated_corner { repeated_corner (topology (mesh_in mesh)) ≡ false }
+    requires no_duplicate_cell { duplicate_cell (topology (mesh_in mesh)) ≡ false }
+    requires face_count_value { face_count ≡ length (faces (topology (mesh_in mesh))) }
+    ensures { result ≡ sizes (topology (mesh_in mesh.entry)) }
 {
-    let edges = edge_count(words, hexes, quads, segments);
     Sizes {
-        vertices: (xs.len() / 3) as u64,
-        edges: edges as u64,
+        edges: edge_count(words, PlainMesh { tables: mesh }) as u64,
         faces: face_count as u64,
-        hexes: (hexes.len() / 8) as u64,
-        quads: (quads.len() / 4) as u64,
-        segments: (segments.len() / 2) as u64,
-        points: points.len() as u64,
+        ..mesh.places()
     }
 }

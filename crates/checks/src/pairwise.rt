@@ -1,173 +1,114 @@
 // Checks 6 and 7 and the counts of edges and faces with no memory: each cell, each part is compared with each other one.
-ghost use Rattle.std.specs.Prelude.{◌≡◌, false, [], map, ◌+◌, ◌<◌, eqb, length, get_or, take, drop};
+ghost use Rattle.std.specs.Prelude.{◌≡◌, false, [], map, ◌<◌, eqb, length, get_or, take};
 ghost use Rattle.rules.specs.Lists.{any, repeats, cut, key_of, same};
-ghost use Rattle.rules.specs.Mesh.{mesh, topology};
-ghost use Rattle.rules.specs.Refusals.{repeated_corner, mismatched, mismatched_face};
-ghost use Rattle.checks.specs.Walk.{met_in, count_in};
+ghost use Rattle.rules.specs.Mesh.{topology};
+ghost use Rattle.rules.specs.Refusals.{mismatched, mismatched_face};
+ghost use Rattle.tables.specs.Lent.{mesh_in};
+ghost use Rattle.checks.specs.Walk.{parts_met, parts_counted};
+ghost use Rattle.checks.specs.Held.{within};
 
+use crate::cells::PlainMesh;
+use crate::parts::Part;
 use crate::{cells, faces, parts};
 
-// Whether two cells have one corner set. Neither names a corner twice.
-pub fn same_corners(a: &[u32], b: &[u32]) -> bool
-    requires equally_long { length a.now ≡ length b.now }
-    requires no_repeats { (repeats eqb a.now ≡ false) × (repeats eqb b.now ≡ false) }
-    ensures { result ≡ same (key_of a.now) (key_of b.now) }
+// Whether each corner of the one is a corner of the other. Of two cells of one size that name no corner twice it tells whether they have
+// one corner set.
+fn is_within(a: &[u32], b: &[u32]) -> bool
+    ensures { result ≡ within a.now b.now }
 {
-    let mut i = 0;
-    while i < a.len() {
-        if !cells::has_number(a[i], b) {
-            return false;
-        }
-        i += 1;
-    }
-    true
+    a.iter().all(|corner| cells::has_number(*corner, b))
 }
 
-// Whether the cells c and d of a table have one corner set; a cell has k corners.
-fn same_cells(k: usize, table: &[u32], c: usize, d: usize) -> bool
-    requires no_repeated_corner { any (repeats eqb) (cut k table.now) ≡ false }
-    requires c_in_bounds { (c < length (cut k table.now)) × (d < length (cut k table.now)) }
-    ensures { result ≡ same (key_of (get_or (cut k table.now) c [])) (key_of (get_or (cut k table.now) d [])) }
-{
-    let at = k * c;
-    let to = at + k;
-    let from = k * d;
-    let end = from + k;
-    same_corners(&table[at..to], &table[from..end])
-}
-
-// Whether a cell behind cell c has its corner set.
-fn stands_again(k: usize, table: &[u32], c: usize) -> bool
-    requires k_nonzero { 0 < k }
-    requires no_repeated_corner { any (repeats eqb) (cut k table.now) ≡ false }
-    requires c_in_bounds { c < length (cut k table.now) }
-    ensures { result ≡ any (same (key_of (get_or (cut k table.now) c []))) (drop (c + 1) (map key_of (cut k table.now))) }
-{
-    let n = table.len() / k;
-    let mut d = c + 1;
-    while d < n {
-        if same_cells(k, table, c, d) {
-            return true;
-        }
-        d += 1;
-    }
-    false
-}
-
-// Whether two cells of a table have one corner set.
+// Whether two cells of a table have one corner set; a cell has k corners.
 pub fn has_duplicate(k: usize, table: &[u32]) -> bool
     requires k_nonzero { 0 < k }
     requires no_repeated_corner { any (repeats eqb) (cut k table.now) ≡ false }
     ensures { result ≡ repeats same (map key_of (cut k table.now)) }
 {
-    let n = table.len() / k;
-    let mut c = 0;
-    while c < n {
-        if stands_again(k, table, c) {
+    for c in 0..table.len() / k {
+        let (cell, behind) = table[k * c..].split_at(k);
+        if behind.chunks_exact(k).any(|other| is_within(cell, other)) {
             return true;
         }
-        c += 1;
     }
     false
 }
 
-// Whether the parts i and j of dimension d have one corner set.
-fn same_parts(d: usize, hexes: &[u32], quads: &[u32], segments: &[u32], i: usize, j: usize) -> bool
-    requires d_in_range { (0 < d) × (d < 3) }
-    requires no_repeated_corner { repeated_corner (topology (mesh [] hexes.now quads.now segments.now [])) ≡ false }
-    requires i_in_bounds { (i < length (met_in d hexes.now quads.now segments.now))
-        × (j < length (met_in d hexes.now quads.now segments.now)) }
-    ensures { let parts = met_in d hexes.now quads.now segments.now in
-        result ≡ same (key_of (get_or parts i [])) (key_of (get_or parts j [])) }
+// Whether the parts i and j have one corner set.
+fn same_parts(of: Part, mesh: PlainMesh, i: usize, j: usize) -> bool
+    requires { (i < length (parts_met of mesh.tables)) × (j < length (parts_met of mesh.tables)) }
+    ensures { let ps = parts_met of mesh.entry.tables in result ≡ same (key_of (get_or ps i [])) (key_of (get_or ps j [])) }
 {
-    let a = parts::part_at(d, hexes, quads, segments, i);
-    let b = parts::part_at(d, hexes, quads, segments, j);
-    let n = 2 * d;
-    same_corners(&a[..n], &b[..n])
+    let k = of.corners();
+    let mut a = [0u32; 4];
+    let mut b = [0u32; 4];
+    parts::read(of, mesh.tables, i, &mut a[..k]);
+    parts::read(of, mesh.tables, j, &mut b[..k]);
+    is_within(&a[..k], &b[..k])
 }
 
 // Whether part i was met before.
-fn is_met_before(d: usize, hexes: &[u32], quads: &[u32], segments: &[u32], i: usize) -> bool
-    requires d_in_range { (0 < d) × (d < 3) }
-    requires no_repeated_corner { repeated_corner (topology (mesh [] hexes.now quads.now segments.now [])) ≡ false }
-    requires i_in_bounds { i < length (met_in d hexes.now quads.now segments.now) }
-    ensures { let keys = map key_of (met_in d hexes.now quads.now segments.now) in
-        result ≡ any (same (get_or keys i [])) (take i keys) }
+fn is_met_before(of: Part, mesh: PlainMesh, i: usize) -> bool
+    requires { i < length (parts_met of mesh.tables) }
+    ensures { let keys = map key_of (parts_met of mesh.entry.tables) in result ≡ any (same (get_or keys i [])) (take i keys) }
 {
-    let mut j = 0;
-    while j < i {
-        if same_parts(d, hexes, quads, segments, i, j) {
+    for j in 0..i {
+        if same_parts(of, mesh, i, j) {
             return true;
         }
-        j += 1;
     }
     false
 }
 
-// How many edges (d = 1) or faces (d = 2) there are.
-pub fn count_distinct(d: usize, hexes: &[u32], quads: &[u32], segments: &[u32]) -> usize
-    requires d_in_range { (0 < d) × (d < 3) }
-    requires no_repeated_corner { repeated_corner (topology (mesh [] hexes.now quads.now segments.now [])) ≡ false }
-    ensures { result ≡ count_in d hexes.now quads.now segments.now }
+// How many edges or faces there are.
+#[tactic(auto, using(crate::proofs::Counting::count_start))]
+pub fn count_distinct(of: Part, mesh: PlainMesh) -> usize
+    ensures { result ≡ parts_counted of mesh.entry.tables }
 {
-    let n = parts::part_count(d, hexes, quads, segments);
     let mut count = 0;
-    let mut i = 0;
-    while i < n {
-        if !is_met_before(d, hexes, quads, segments, i) {
+    for i in 0..parts::part_count(of, mesh.tables) {
+        if !is_met_before(of, mesh, i) {
             count += 1;
         }
-        i += 1;
     }
     count
 }
 
 // Whether the faces i and j have one corner set and other neighbours in going round.
-fn is_mismatched(hexes: &[u32], quads: &[u32], segments: &[u32], i: usize, j: usize) -> bool
-    requires no_repeated_corner { repeated_corner (topology (mesh [] hexes.now quads.now segments.now [])) ≡ false }
-    requires i_in_bounds { (i < length (met_in 2 hexes.now quads.now segments.now))
-        × (j < length (met_in 2 hexes.now quads.now segments.now)) }
-    ensures { let faces = met_in 2 hexes.now quads.now segments.now in
-        result ≡ mismatched (get_or faces i []) (get_or faces j []) }
+fn is_mismatched(mesh: PlainMesh, i: usize, j: usize) -> bool
+    requires { (i < length (parts_met Part.Face mesh.tables)) × (j < length (parts_met Part.Face mesh.tables)) }
+    ensures { let fs = parts_met Part.Face mesh.entry.tables in result ≡ mismatched (get_or fs i []) (get_or fs j []) }
 {
-    if !same_parts(2, hexes, quads, segments, i, j) {
-        return false;
-    }
-    let f = parts::part_at(2, hexes, quads, segments, i);
-    let g = parts::part_at(2, hexes, quads, segments, j);
-    faces::across(f) != faces::across(g)
+    let mut f = [0u32; 4];
+    let mut g = [0u32; 4];
+    parts::read(Part::Face, mesh.tables, i, &mut f);
+    parts::read(Part::Face, mesh.tables, j, &mut g);
+    is_within(&f, &g) && faces::across(f) != faces::across(g)
 }
 
 // Whether some face does not match face i.
-fn has_mismatch(hexes: &[u32], quads: &[u32], segments: &[u32], i: usize) -> bool
-    requires no_repeated_corner { repeated_corner (topology (mesh [] hexes.now quads.now segments.now [])) ≡ false }
-    requires i_in_bounds { i < length (met_in 2 hexes.now quads.now segments.now) }
-    ensures { let faces = met_in 2 hexes.now quads.now segments.now in
-        result ≡ any (mismatched (get_or faces i [])) faces }
+#[tactic(auto, using(crate::proofs::Library::none_more, crate::proofs::Library::one_passes), unfolding(rules::specs::Lists::any))]
+fn has_mismatch(mesh: PlainMesh, i: usize) -> bool
+    requires { i < length (parts_met Part.Face mesh.tables) }
+    ensures { let fs = parts_met Part.Face mesh.entry.tables in result ≡ any (mismatched (get_or fs i [])) fs }
 {
-    let n = parts::part_count(2, hexes, quads, segments);
-    let mut j = 0;
-    while j < n {
-        if is_mismatched(hexes, quads, segments, i, j) {
+    for j in 0..parts::part_count(Part::Face, mesh.tables) {
+        if is_mismatched(mesh, i, j) {
             return true;
         }
-        j += 1;
     }
     false
 }
 
 // Whether two faces have one corner set and different neighbours in going round.
-pub fn has_mismatched_face(hexes: &[u32], quads: &[u32], segments: &[u32]) -> bool
-    requires { repeated_corner (topology (mesh [] hexes.now quads.now segments.now [])) ≡ false }
-    ensures { result ≡ mismatched_face (topology (mesh [] hexes.now quads.now segments.now [])) }
+#[tactic(auto, using(crate::proofs::Library::none_more, crate::proofs::Library::one_passes, crate::proofs::Library::none_passes, crate::proofs::WalkLaws::met_mesh), unfolding(rules::specs::Lists::any, rules::specs::Refusals::mismatched_face))]
+pub fn has_mismatched_face(mesh: PlainMesh) -> bool
+    ensures { result ≡ mismatched_face (topology (mesh_in mesh.entry.tables)) }
 {
-    let n = parts::part_count(2, hexes, quads, segments);
-    let mut i = 0;
-    while i < n {
-        if has_mismatch(hexes, quads, segments, i) {
+    for i in 0..parts::part_count(Part::Face, mesh.tables) {
+        if has_mismatch(mesh, i) {
             return true;
         }
-        i += 1;
     }
     false
 }

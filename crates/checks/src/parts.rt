@@ -1,148 +1,109 @@
-// The edges (d = 1) and faces (d = 2) of a mesh by number, in the order in which the rules meet them: read off the tables, with no memory.
-ghost use Rattle.std.specs.Prelude.{◌≡◌, [], ◌*◌, ◌<◌, length, get_or, take};
-ghost use Rattle.rules.specs.Mesh.{hex, quad, segment, places, place_of};
-ghost use Rattle.checks.specs.Walk.{parts_of, met_in};
+// The edges and faces of a mesh by number, in the order in which the rules meet them: read off the tables, with no memory.
+ghost use Rattle.std.specs.Prelude.{◌≡◌, [], ◌<◌, length, get_or};
+ghost use Rattle.numbering.specs.Parts.{part_corners};
+ghost use Rattle.rules.specs.Mesh.{hex, quad, segment};
+ghost use Rattle.checks.specs.Walk.{parts_in, size_of, Named, parts_met};
 
-use rules::tables;
+use numbering::parts::{Parts, corners_of, count_of, place_of};
+use tables::MeshTables;
 
-// How many parts of dimension d a hex has.
-fn hex_parts(d: usize) -> usize
-    requires { (0 < d) × (d < 3) }
-    ensures { result ≡ length (places hex d) }
-{
-    if d == 1 { 12 } else { 6 }
+// What parts of cells are walked.
+#[derive(Clone, Copy)]
+pub enum Part {
+    Edge,
+    Face,
 }
 
-// How many parts of dimension d a quad has.
-fn quad_parts(d: usize) -> usize
-    requires { (0 < d) × (d < 3) }
-    ensures { result ≡ length (places quad d) }
-{
-    if d == 1 { 4 } else { 1 }
-}
+impl Part {
+    // How many corners one has.
+    pub fn corners(self) -> usize
+        ensures { result ≡ size_of self }
+    {
+        match self {
+            Part::Edge => 2,
+            Part::Face => 4,
+        }
+    }
 
-// The place of corner j of part p of a hex.
-fn hex_place(d: usize, p: usize, j: usize) -> usize
-    requires d_in_range { (0 < d) × (d < 3) }
-    requires p_in_bounds { (p < length (places hex d)) × (j < 2 * d) }
-    ensures { result ≡ place_of (places hex d) p j }
-{
-    if d == 1 {
-        tables::hex_edge(p, j)
-    } else {
-        tables::hex_face(p, j)
+    // Those of a hex.
+    fn of_hexes(self) -> Parts
+        ensures { Named self hex result }
+    {
+        match self {
+            Part::Edge => Parts::HexEdges,
+            Part::Face => Parts::HexFaces,
+        }
+    }
+
+    // Those of a quad, which is one face.
+    fn of_quads(self) -> Parts
+        ensures { Named self quad result }
+    {
+        match self {
+            Part::Edge => Parts::QuadEdges,
+            Part::Face => Parts::Quads,
+        }
+    }
+
+    // Those of a segment, which is one edge.
+    fn of_segments(self) -> Parts
+        ensures { Named self segment result }
+    {
+        match self {
+            Part::Edge => Parts::Segments,
+            Part::Face => Parts::SegmentFaces,
+        }
     }
 }
 
-// The place of corner j of part p of a quad.
-fn quad_place(d: usize, p: usize, j: usize) -> usize
-    requires d_in_range { (0 < d) × (d < 3) }
-    requires p_in_bounds { (p < length (places quad d)) × (j < 2 * d) }
-    ensures { result ≡ place_of (places quad d) p j }
+// How many of these parts the cells of a table have, each counted as often as it is met.
+#[tactic(auto, using(crate::proofs::WalkLaws::length_parts))]
+fn count_in(of: Parts, cells: &[u32]) -> usize
+    ensures { result ≡ length (parts_in of cells.now) }
 {
-    if d == 1 { tables::quad_edge(p, j) } else { j }
+    count_of(of) * (cells.len() / corners_of(of))
 }
 
-// How many parts of dimension d the hexes have, each counted as often as it is met.
-fn in_hexes(d: usize, hexes: &[u32]) -> usize
-    requires { (0 < d) × (d < 3) }
-    ensures { result ≡ length (parts_of hex d hexes.now) }
+// Reads the corners of number i of these parts of the cells of a table.
+fn read_in(of: Parts, cells: &[u32], i: usize, corners: &mut [u32])
+    requires size { length corners.old ≡ part_corners of }
+    requires i_in_bounds { i < length (parts_in of cells.now) }
+    ensures { corners.new ≡ get_or (parts_in of cells.now) i [] }
 {
-    hex_parts(d) * (hexes.len() / 8)
-}
-
-// The same of the quads.
-fn in_quads(d: usize, quads: &[u32]) -> usize
-    requires { (0 < d) × (d < 3) }
-    ensures { result ≡ length (parts_of quad d quads.now) }
-{
-    quad_parts(d) * (quads.len() / 4)
-}
-
-// The same of the segments: each is one edge.
-fn in_segments(d: usize, segments: &[u32]) -> usize
-    requires { (0 < d) × (d < 3) }
-    ensures { result ≡ length (parts_of segment d segments.now) }
-{
-    if d == 1 { segments.len() / 2 } else { 0 }
-}
-
-// Corner j of part number i of the hexes.
-fn hex_corner(d: usize, hexes: &[u32], i: usize, j: usize) -> u32
-    requires d_in_range { (0 < d) × (d < 3) }
-    requires i_in_bounds { (i < length (parts_of hex d hexes.now)) × (j < 2 * d) }
-    ensures { result ≡ get_or (get_or (parts_of hex d hexes.now) i []) j 0 }
-{
-    let n = hex_parts(d);
-    let at = 8 * (i / n) + hex_place(d, i % n, j);
-    hexes[at]
-}
-
-// Corner j of part number i of the quads.
-fn quad_corner(d: usize, quads: &[u32], i: usize, j: usize) -> u32
-    requires d_in_range { (0 < d) × (d < 3) }
-    requires i_in_bounds { (i < length (parts_of quad d quads.now)) × (j < 2 * d) }
-    ensures { result ≡ get_or (get_or (parts_of quad d quads.now) i []) j 0 }
-{
-    let n = quad_parts(d);
-    let at = 4 * (i / n) + quad_place(d, i % n, j);
-    quads[at]
-}
-
-// Corner j of part number i of the segments: only edges.
-fn segment_corner(d: usize, segments: &[u32], i: usize, j: usize) -> u32
-    requires d_in_range { (0 < d) × (d < 3) }
-    requires i_in_bounds { (i < length (parts_of segment d segments.now)) × (j < 2 * d) }
-    ensures { result ≡ get_or (get_or (parts_of segment d segments.now) i []) j 0 }
-{
-    let at = 2 * i + j;
-    segments[at]
-}
-
-// Corner j of part number i.
-pub fn part_corner(
-    d: usize,
-    hexes: &[u32],
-    quads: &[u32],
-    segments: &[u32],
-    i: usize,
-    j: usize,
-) -> u32
-    requires d_in_range { (0 < d) × (d < 3) }
-    requires i_in_bounds { (i < length (met_in d hexes.now quads.now segments.now)) × (j < 2 * d) }
-    ensures { result ≡ get_or (get_or (met_in d hexes.now quads.now segments.now) i []) j 0 }
-{
-    let h = in_hexes(d, hexes);
-    if i < h {
-        return hex_corner(d, hexes, i, j);
+    let n = count_of(of);
+    let cell = corners_of(of) * (i / n);
+    for j in 0..corners.len() {
+        corners[j] = cells[cell + place_of(of, i % n, j)];
     }
-    let q = in_quads(d, quads);
-    let rest = i - h;
-    if rest < q {
-        return quad_corner(d, quads, rest, j);
-    }
-    segment_corner(d, segments, rest - q, j)
 }
 
-// The corners of part number i: an edge has 2, a face 4.
-pub fn part_at(d: usize, hexes: &[u32], quads: &[u32], segments: &[u32], i: usize) -> [u32; 4]
-    requires d_in_range { (0 < d) × (d < 3) }
-    requires i_in_bounds { i < length (met_in d hexes.now quads.now segments.now) }
-    ensures { take (2 * d) result ≡ get_or (met_in d hexes.now quads.now segments.now) i [] }
+// How many edges or faces the cells of a mesh have, each counted as often as it is met.
+#[tactic(auto, using(crate::proofs::WalkLaws::few_parts))]
+pub fn part_count(of: Part, mesh: MeshTables) -> usize
+    ensures { result ≡ length (parts_met of mesh.entry) }
 {
-    let mut part = [0u32; 4];
-    let mut j = 0;
-    while j < 2 * d {
-        part[j] = part_corner(d, hexes, quads, segments, i, j);
-        j += 1;
-    }
-    part
+    count_in(of.of_hexes(), mesh.hexes)
+        + count_in(of.of_quads(), mesh.quads)
+        + count_in(of.of_segments(), mesh.segments)
 }
 
-// How many parts of dimension d the cells have, each counted as often as it is met.
-pub fn part_count(d: usize, hexes: &[u32], quads: &[u32], segments: &[u32]) -> usize
-    requires { (0 < d) × (d < 3) }
-    ensures { result ≡ length (met_in d hexes.now quads.now segments.now) }
+// Reads the corners of number i of them.
+#[tactic(auto, using(crate::proofs::WalkLaws::met_hex, crate::proofs::WalkLaws::met_quad, crate::proofs::WalkLaws::met_segment, crate::proofs::WalkLaws::segment_below))]
+pub fn read(of: Part, mesh: MeshTables, i: usize, corners: &mut [u32])
+    requires size { length corners.old ≡ size_of of }
+    requires i_in_bounds { i < length (parts_met of mesh) }
+    ensures { corners.new ≡ get_or (parts_met of mesh.entry) i [] }
 {
-    in_hexes(d, hexes) + (in_quads(d, quads) + in_segments(d, segments))
+    let hexes = of.of_hexes();
+    let in_hexes = count_in(hexes, mesh.hexes);
+    if i < in_hexes {
+        return read_in(hexes, mesh.hexes, i, corners);
+    }
+    let behind = i - in_hexes;
+    let quads = of.of_quads();
+    let in_quads = count_in(quads, mesh.quads);
+    if behind < in_quads {
+        return read_in(quads, mesh.quads, behind, corners);
+    }
+    read_in(of.of_segments(), mesh.segments, behind - in_quads, corners);
 }

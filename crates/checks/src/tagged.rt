@@ -1,60 +1,78 @@
 // A table of keys in lent memory with a tag for each key: 3 numbers more than a key has, and one more for all.
-ghost use Rattle.std.specs.Prelude.{◌≤◌, ◌<◌, length};
+ghost use Rattle.std.specs.Prelude.{◌≡◌, ◌≤◌, ◌<◌, length};
 ghost use Rattle.rules.specs.Lists.{key_of};
-ghost use Rattle.checks.specs.Tagged.{Tagged, TagMet};
+ghost use Rattle.checks.specs.Tagged.{Holds, SameTable, KeyMet};
 
 use numbering::{count, keys, table};
 
-// What meeting a key with a tag finds: a new key, or one that has this tag, and the count of keys; or another tag; or no room.
+// Why keys are not all met: one was met before with another tag, or there is no room for one.
 #[derive(Clone, Copy)]
-pub enum Met {
-    Agrees(usize),
+pub enum Stopped {
     Differs,
     Full,
 }
 
-// Makes a table of no key with room for `most` keys of c numbers, or for as many as the memory holds; the answer is its room.
-pub fn prepare(w: &mut [u32], c: usize, most: usize) -> usize
-    requires { (0 < length w.old) × (c ≤ 8) }
-    ensures { Tagged c w.new result 0 }
-{
-    let room = count::room_in(w.len(), c + 3, most);
-    let size = room + 1 + (c + 1) * room;
-    table::prepare(&mut w[..size], room);
-    room
+// The memory of a table, for how many keys it has room, and how many it has.
+#[derive(Drop)]
+pub struct TaggedKeys<'a> {
+    words: &'a mut [u32],
+    room: usize,
+    pub known: usize,
 }
 
-// Meets a key with a tag in a table of n keys.
-pub fn meet(w: &mut [u32], room: usize, n: usize, key: &[u32], tag: u32) -> Met
-    requires { Tagged (length key.now) w.old room n }
-    ensures { TagMet (length key.now) w.old w.new room n key.now tag result }
-{
-    let size = room + 1 + (key.len() + 1) * room;
-    let met = table::meet(&mut w[..size], room, n, key);
-    let table::Meeting::At(number, count) = met else {
-        return Met::Full;
-    };
-    let at = size + number;
-    if n < count {
-        w[at] = tag;
-        return Met::Agrees(count);
+impl<'a> TaggedKeys<'a> {
+    // A table of no key with room for `most` keys of c numbers, or for as many as the memory holds.
+    #[tactic(auto, using(crate::proofs::TaggedLaws::tagged_start))]
+    pub fn new(words: &'a mut [u32], c: usize, most: usize) -> TaggedKeys<'a>
+        requires { (0 < length words.old) × (c ≤ 8) }
+        ensures same_words { result.words.ghost_name ≡ words.entry.ghost_name }
+        ensures len { length result.words.now ≡ length words.old }
+        ensures no_key { result.known ≡ 0 }
+        ensures holds { Holds c result }
+    {
+        let room = count::room_in(words.len(), c + 3, most);
+        let size = room + 1 + (c + 1) * room;
+        table::prepare(&mut words[..size], room);
+        TaggedKeys {
+            words,
+            room,
+            known: 0,
+        }
     }
-    if w[at] == tag {
-        return Met::Agrees(count);
-    }
-    Met::Differs
-}
 
-// Meets the key of some corners, which are sorted in place. Faces are most of what is met: where the compiler knows their length, no loop
-// over a key is left.
-pub fn meet_corners(w: &mut [u32], room: usize, n: usize, corners: &mut [u32], tag: u32) -> Met
-    requires { Tagged (length corners.old) w.old room n }
-    ensures { TagMet (length corners.old) w.old w.new room n (key_of corners.old) tag result }
-{
-    if corners.len() == 4 {
-        keys::sort(&mut corners[..4]);
-        return meet(w, room, n, &corners[..4], tag);
+    // Meets a key with a tag.
+    fn meet<const C: usize>(&mut self, key: [u32; C], tag: u32) -> Result<(), Stopped>
+        requires { Holds C self.old }
+        ensures same_table { SameTable self.old self.new }
+        ensures met { KeyMet C self.old self.new key.entry tag result }
+    {
+        let size = self.room + 1 + (C + 1) * self.room;
+        let words = &mut *self.words;
+        let Some(met) = table::meet(&mut words[..size], self.room, self.known, &key) else {
+            return Err(Stopped::Full);
+        };
+        let at = size + met.number;
+        if self.known < met.known {
+            words[at] = tag;
+        } else if words[at] != tag {
+            return Err(Stopped::Differs);
+        }
+        self.known = met.known;
+        Ok(())
     }
-    keys::sort(corners);
-    meet(w, room, n, corners, tag)
+
+    // Meets the key of some corners. Their count is a constant: so no loop over a key is left.
+    pub fn meet_corners<const C: usize>(
+        &mut self,
+        corners: [u32; C],
+        tag: u32,
+    ) -> Result<(), Stopped>
+        requires { Holds C self.old }
+        ensures same_table { SameTable self.old self.new }
+        ensures met { KeyMet C self.old self.new (key_of corners.entry) tag result }
+    {
+        let mut key = corners;
+        keys::sort(&mut key);
+        self.meet(key, tag)
+    }
 }

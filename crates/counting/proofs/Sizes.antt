@@ -8,7 +8,7 @@ use Rattle.rules.specs.declared.Sizes.{Sizes}
 use Rattle.rules.specs.Counts.{next_sizes, sizes_after}
 use Rattle.counting.specs.Bounded.{Bounded}
 
-pub bounded_le : (a b : ℕ) (s : Sizes) → a ≤ b → Bounded a s → Bounded b s
+bounded_le : (a b : ℕ) (s : Sizes) → a ≤ b → Bounded a s → Bounded b s
 bounded_le a b s h g = record {
   vertices = le_trans g.vertices h;
   edges = le_trans g.edges h;
@@ -48,9 +48,6 @@ pub bound_fits : (k : ℕ) (s : Sizes) → k < 8 → Bounded (bound k) s → Bou
 bound_fits k s h g =
     let e : 23 + 4 * k ≤ 59 = omega arith in
     bounded_le (bound k) (2 ^ 59) s (pow_mono e) g
-
-pub after_all : (n : ℕ) (s : Sizes) → sizes_after (n - 0) s ≡ sizes_after n s
-after_all n s = ap (λ (k : ℕ). sizes_after k s) (omega arith)
 
 -- one of the rounds that are left
 pub after_next : (n k : ℕ) (s : Sizes) → k < n → sizes_after (n - (k + 1)) (next_sizes s) ≡ sizes_after (n - k) s

@@ -4,11 +4,12 @@
 
 ghost use Rattle.std.specs.Prelude.{◌≡◌, ◌≤◌, ◌^◌};
 ghost use Rattle.rules.specs.Counts.{next_sizes, sizes_after, out_of_range, counts_in, fewer};
-ghost use Rattle.counting.specs.Bounded.{Bounded};
+ghost use Rattle.counting.specs.Bounded.{Bounded, Narrow};
 
 use rules::{Counts, Sizes};
 
 // What a round makes of the sizes.
+#[tactic(auto, unfolding(rules::specs::Counts::next_sizes))]
 pub fn next_sizes(s: Sizes) -> Sizes
     requires { Bounded (2 ^ 59) s }
     ensures { result ≡ next_sizes s }
@@ -31,30 +32,48 @@ pub fn sizes_after(rounds: u32, s: Sizes) -> Sizes
     ensures { result ≡ sizes_after rounds s }
 {
     let mut now = s;
-    let mut k = 0;
-    while k < rounds {
+    for _ in 0..rounds {
         now = next_sizes(now);
-        k += 1;
     }
     now
 }
 
 // Whether some count is outside its range: check 2 of a mesh, check 10 of the finished one.
+#[tactic(auto, unfolding(rules::specs::Counts::out_of_range, rules::specs::Counts::counts_in))]
 pub fn out_of_range(s: Sizes) -> bool
     ensures { result ≡ out_of_range (counts_in s) }
 {
     s.vertices == 0
-        || (1000000 < s.vertices
-            || (250000 < s.hexes
-                || (250000 < s.quads || (250000 < s.segments || 250000 < s.points))))
+        || 1_000_000 < s.vertices
+        || 250_000 < s.hexes
+        || 250_000 < s.quads
+        || 250_000 < s.segments
+        || 250_000 < s.points
 }
 
 // Whether some lent table has fewer places than are needed: check 11.
+#[tactic(auto, unfolding(rules::specs::Counts::fewer, rules::specs::Counts::counts_in))]
 pub fn fewer(lent: Sizes, needed: Sizes) -> bool
     ensures { result ≡ fewer (counts_in lent) (counts_in needed) }
 {
     lent.vertices < needed.vertices
-        || (lent.hexes < needed.hexes
-            || (lent.quads < needed.quads
-                || (lent.segments < needed.segments || lent.points < needed.points)))
+        || lent.hexes < needed.hexes
+        || lent.quads < needed.quads
+        || lent.segments < needed.segments
+        || lent.points < needed.points
+}
+
+// The five counts among the sizes.
+#[tactic(auto, unfolding(rules::specs::Counts::counts_in))]
+pub fn counts_in(sizes: Sizes) -> Counts
+    requires { Narrow sizes }
+    ensures { result ≡ counts_in sizes }
+{
+    Counts {
+        vertices: sizes.vertices as u32,
+        hexes: sizes.hexes as u32,
+        quads: sizes.quads as u32,
+        segments: sizes.segments as u32,
+        points: sizes.points as u32,
+    }
 }

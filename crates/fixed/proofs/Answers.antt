@@ -5,6 +5,10 @@ use Prim.Native.Nat.{ℕ, zero, suc, ◌*◌}
 use lib.ListN.{length}
 use Rattle.rules.specs.declared.Counts.{Counts}
 use Rattle.rules.specs.declared.CountsAnswer.{CountsAnswer}
+use Rattle.rules.specs.declared.Refusal.{Refusal}
+use Rattle.rules.specs.Answers.{number_of}
+use Rattle.rules.proofs.Named.{number_is_suc}
+use native.Mathlib.Omega.{arith}
 use Rattle.rules.specs.Mesh.{Mesh, topology}
 use Rattle.rules.specs.Averaging.{refined}
 use Rattle.rules.specs.Counts.{counts_of, finished_counts}
@@ -12,7 +16,7 @@ use Rattle.rules.specs.EntryPoints.{counts_answer, result_tables, front, refinin
 use Rattle.rules.specs.StoredForm.{header_of, stored_mesh, reading_refusal, reading_answer, reading_output}
 use Rattle.rules.specs.Viewer.{fixed_counts, fixed_lent, and_then, stored_refining_refusal}
 use Rattle.stored.proofs.Form.{Sized, stored_under, under_sized}
-use Rattle.fixed.specs.Room.{Room}
+use Rattle.tables.specs.Lent.{Room}
 use Rattle.fixed.proofs.Fronts.{front_result, room_result}
 
 -- a stored mesh has the lengths that its header gives
@@ -41,6 +45,10 @@ module _ {out work : Mesh} {words longs : List ℕ} (f : FixedMemory out work wo
   refined_output m rounds e = rw lent_is at e
 
 -- ---- reading before it
+
+-- a refusal by name is one
+pub not_zero : (r : Refusal) → number_of r ≡ 0 → ⊥
+not_zero r e = let s = number_is_suc r in omega (arith, s.1)
 
 pub answer_number : (k : ℕ) (c : Counts) → (counts_answer k c).refusal ≡ k
 answer_number zero c = refl

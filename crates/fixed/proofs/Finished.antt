@@ -17,7 +17,7 @@ use Rattle.soundness.proofs.Rounds.{refined_counts, refined_entire}
 use Rattle.stored.specs.Form.{header_for}
 use Rattle.stored.proofs.Form.{Sized, whole_sized}
 use Rattle.plan.proofs.Refusals.{check_passes, both_pass, rounds_then, rounds_pass}
-use Rattle.fixed.specs.Room.{Room}
+use Rattle.tables.specs.Lent.{Room}
 use Rattle.fixed.proofs.Fronts.{front_result, room_result}
 use Rattle.fixed.proofs.Answers.{answer_number}
 

@@ -10,7 +10,7 @@ use Rattle.rules.specs.EntryPoints.{result_tables, front_of, front}
 use Rattle.rules.specs.StoredForm.{Header}
 use Rattle.stored.proofs.Form.{Sized}
 use Rattle.rounds.proofs.Turns.{begins}
-use Rattle.fixed.specs.Room.{Room}
+use Rattle.tables.specs.Lent.{Room}
 
 module _ {A : Type 0} where
   holds : (n : ℕ) (old new : List A) → length new ≡ n → n ≤ length (overwritten old new)

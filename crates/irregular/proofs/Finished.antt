@@ -1,17 +1,17 @@
 -- What the numbers hold when all tables are marked and counted: an unusual vertex is an irregular one. Assumes nothing.
-use mathlib.Core.Path.{◌≡◌, refl, sym, ap, ◌∙◌}
+use mathlib.Core.Path.{◌≡◌, refl}
 use mathlib.Core.Bool.{Bool, true, false, not, cond}
-use mathlib.Core.List.{List, ◌++◌}
-use Prim.Native.Nat.{ℕ, ◌+◌, ◌*◌, ◌/◌, ◌^◌, ◌<◌, ◌≤◌}
+use mathlib.Core.List.{List}
+use Prim.Native.Nat.{ℕ, ◌+◌, ◌/◌, ◌^◌, ◌<◌}
 use native.Mathlib.Omega.{arith}
 use lib.Dec.{eqb, lit<}
-use lib.ListN.{length, take, drop, get_or, replicate, length-append, length-drop, length-replicate, get_or-replicate, get_or-append}
-use lib.Seq.{get_or-append-add, get_or-take, get_or-drop}
+use lib.ListN.{length, get_or}
+use Rattle.std.specs.List.{zip, count_by}
 use Rattle.rules.specs.Lists.{keep, up_from, has}
-use Rattle.lists.proofs.Membership.{in_up_from}
+use Rattle.rules.specs.Mesh.{Mesh}
 use Rattle.irregular.specs.Times.{times, irregular_by, irregular_in}
-use Rattle.irregular.specs.Tallied.{depth, Ranked, Counted, unusual}
-use Rattle.irregular.proofs.Keeping.{keep_same, keep_shift}
+use Rattle.irregular.specs.Tallied.{Ranked, Counted, unusual}
+use Rattle.irregular.proofs.Keeping.{pair_count}
 use Rattle.irregular.proofs.Valences.{has_times}
 
 -- by the counts of a vertex: p, s, q and h
@@ -47,53 +47,22 @@ depth_below false true c = lit< tt
 depth_below false false true = lit< tt
 depth_below false false false = lit< tt
 
--- ---- the memory, from the start
+-- ---- a window, once its tables are marked and counted
 
-module _ (first n k : ℕ) (h : 2 * n ≤ k) (w : List ℕ) (start : w ≡ replicate k 0) where
-  pub zeros_kept : length w ≡ k
-  zeros_kept = ap length start ∙ length-replicate k 0
+module _ {first : ℕ} {m : Mesh} {ranks : List ℕ} (r : Ranked first m ranks) where
+  pub ranks_below : (v : ℕ) → v < length ranks → get_or ranks v 0 < 4
+  ranks_below v l = let e = r.at v l in rw e (depth_below (has (first + v) m.points) (has (first + v) m.segments) (has (first + v) m.quads))
 
-  zero_at : (i : ℕ) → i < k → get_or w i 0 ≡ 0
-  zero_at i l = ap (λ (v : List ℕ). get_or v i 0) start ∙ get_or-replicate k i 0 0 l
+  module _ {valences : List ℕ} (c : Counted first m ranks valences) where
+    unusual_is : (v : ℕ) → v < length ranks → unusual (get_or ranks v 0, get_or valences v 0) ≡ irregular_in m (first + v)
+    unusual_is v l =
+        rw (
+          c.counts v l,
+          r.at v l,
+          has_times (first + v) m.points,
+          has_times (first + v) m.segments,
+          has_times (first + v) m.quads,
+        ) (usual (times (first + v) m.points) (times (first + v) m.segments) (times (first + v) m.quads) (times (first + v) m.hexes))
 
-  pub front_zero : (v : ℕ) → v < length (take n w) → length (take n w) ≡ n → get_or (take n w) v 0 ≡ 0
-  front_zero v l e = get_or-take n w v 0 (omega arith) ∙ zero_at v (omega arith)
-
-  -- the ranks are marked
-  module _ {qs ss ps ys : List ℕ} (e : length ys ≡ n) (r : Ranked first qs ss ps ys) where
-    pub marked_kept : length (ys ++ drop n w) ≡ k
-    marked_kept = length-append ys (drop n w) ∙ omega (arith, length-drop n w, zeros_kept)
-
-    pub marked_ranks : (v : ℕ) → v < n → get_or (ys ++ drop n w) v 0 ≡ depth qs ss ps (first + v)
-    marked_ranks v l = get_or-append ys (drop n w) 0 v (omega arith) ∙ r.ranks v (omega arith)
-
-    pub marked_counts : (v : ℕ) → v < n → get_or (ys ++ drop n w) (n + v) 0 ≡ 0
-    marked_counts v l =
-        ap (λ (m : ℕ). get_or (ys ++ drop n w) (m + v) 0) (sym e)
-        ∙ get_or-append-add ys (drop n w) v 0
-        ∙ get_or-drop n w v 0
-        ∙ zero_at (n + v) (omega arith)
-
-    -- and the corners are counted
-    module _ {hs new : List ℕ} (c : Counted first n hs qs ss ps (ys ++ drop n w) new) where
-      pub finished_kept : length new ≡ k
-      finished_kept = c.kept ∙ marked_kept
-
-      pub finished_ranks : (v : ℕ) → v < n → get_or new v 0 < 4
-      finished_ranks v l = rw (c.ranks v l, marked_ranks v l) (depth_below (has (first + v) ps) (has (first + v) ss) (has (first + v) qs))
-
-      unusual_is : (v : ℕ) → v < n → unusual n new v ≡ irregular_in hs qs ss ps (first + v)
-      unusual_is v l =
-          rw (
-            c.counts v l,
-            c.ranks v l,
-            marked_ranks v l,
-            has_times (first + v) ps,
-            has_times (first + v) ss,
-            has_times (first + v) qs,
-          ) (usual (times (first + v) ps) (times (first + v) ss) (times (first + v) qs) (times (first + v) hs))
-
-      pub finished_count : length (keep (unusual n new) (up_from 0 n)) ≡ length (keep (irregular_in hs qs ss ps) (up_from first n))
-      finished_count =
-          ap length (keep_same (unusual n new) (λ (v : ℕ). irregular_in hs qs ss ps (first + v)) (up_from 0 n) (λ v i. unusual_is v (omega (arith, in_up_from 0 n v i))))
-          ∙ keep_shift (irregular_in hs qs ss ps) first n
+    pub finished_count : count_by unusual (zip ranks valences) ≡ length (keep (irregular_in m) (up_from first (length ranks)))
+    finished_count = pair_count unusual (irregular_in m) first ranks valences c.kept unusual_is

@@ -1,5 +1,5 @@
 -- Laws of the irregular count.
--- Keeping: a loop that counts the elements that pass a test.
+-- Keeping: how many elements pass a test, all at once or a window at a time.
 pub mod Keeping
 -- Counts: how often a number stands in a list, and counting the corners of tables.
 pub mod Counts
@@ -7,3 +7,5 @@ pub mod Counts
 pub mod Valences
 -- Finished: what the lent numbers hold when all is counted.
 pub mod Finished
+-- Answered: the answer, of a mesh that is refused and of one that is counted.
+pub mod Answered

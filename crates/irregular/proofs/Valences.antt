@@ -2,7 +2,7 @@
 use mathlib.Core.Path.{◌≡◌, refl, sym, ap, ◌∙◌, subst}
 use mathlib.Core.Bool.{Bool, true, false, not, cond, ◌||◌}
 use mathlib.Core.List.{List, [], ◌∷◌, ◌++◌}
-use Prim.Native.Nat.{ℕ, suc, ◌/◌, ◌^◌}
+use Prim.Native.Nat.{ℕ, suc, ◌/◌, ◌^◌, ◌<◌}
 use native.Mathlib.Omega.{arith}
 use lib.Dec.{eqb}
 use lib.ListN.{length}
@@ -14,8 +14,11 @@ use Rattle.rules.specs.Refusals.{partial_entry, repeated_corner}
 use Rattle.rules.specs.EntryPoints.{irregular, irregular_count}
 use Rattle.lists.proofs.Tests.{or_neither}
 use Rattle.lists.proofs.Tables.{concat_cut}
+use Rattle.soundness.specs.Accepted.{Accepted}
+use Rattle.soundness.proofs.Checks.{no_repeated_corner}
+use Rattle.checks.proofs.Passed.{counts_few}
 use Rattle.checks.proofs.ByKind.{table_of, cells_cut, whole_tables, no_repeats}
-use Rattle.irregular.specs.Times.{times, irregular_by, irregular_in}
+use Rattle.irregular.specs.Times.{times, irregular_by, irregular_in, corner_count}
 use Rattle.irregular.proofs.Keeping.{keep_same}
 use Rattle.irregular.proofs.Counts.{times_append}
 
@@ -77,13 +80,25 @@ module _ (m : Mesh) (w : partial_entry m ≡ false) (h : repeated_corner (topolo
       ∙ held_times v (cut (corners κ) (table_of m κ)) (no_repeats m h κ)
       ∙ ap (times v) (concat_cut (corners κ) (table_of m κ) (whole_tables m w κ))
 
-  pub irregular_by_lem : (v : ℕ) → irregular (topology m) v ≡ irregular_in m.hexes m.quads m.segments m.points v
+  pub irregular_by_lem : (v : ℕ) → irregular (topology m) v ≡ irregular_in m v
   unfolding irregular valence rank counted
   irregular_by_lem v =
       let t = topology m in
       decides (holding v t.points) (holding v t.segments) (holding v t.quads) (holding v t.hexes)
       ∙ rw (held v point, held v segment, held v quad, held v hex)
 
-  pub count_by : irregular_count (topology m) ≡ length (keep (irregular_in m.hexes m.quads m.segments m.points) (up_from 0 (length m.vertices / 3)))
+  pub irregular_count_is : irregular_count (topology m) ≡ length (keep (irregular_in m) (up_from 0 (length m.vertices / 3)))
   unfolding irregular_count topology
-  count_by = ap length (keep_same (irregular (topology m)) (irregular_in m.hexes m.quads m.segments m.points) (up_from 0 (length m.vertices / 3)) (λ v i. irregular_by_lem v))
+  irregular_count_is = ap length (keep_same (irregular (topology m)) (irregular_in m) (up_from 0 (length m.vertices / 3)) (λ v i. irregular_by_lem v))
+
+-- of a mesh that passes the checks
+module _ (m : Mesh) (a : Accepted m) where
+  pub accepted_count : irregular_count (topology m) ≡ length (keep (irregular_in m) (up_from 0 (length m.vertices / 3)))
+  accepted_count = irregular_count_is m a.entire (no_repeated_corner (topology m) a.sound)
+
+  -- its tables are short
+  pub few_corners : corner_count m < 2 ^ 32
+  few_corners =
+      let f = counts_few m a.counted in
+      let w = whole_tables m a.entire in
+      omega (arith, f.hexes, f.quads, f.segments, f.points, w hex, w quad, w segment)

@@ -1,6 +1,7 @@
 -- Words of inner contracts: how often a vertex is named in a table, and its irregularity by these counts.
-use Rattle.std.specs.Prelude.{Bool, not, cond, List, ℕ, length, eqb}
+use Rattle.std.specs.Prelude.{Bool, not, cond, List, ℕ, ◌+◌, length, eqb}
 use Rattle.rules.specs.Lists.{keep}
+use Rattle.rules.specs.Mesh.{Mesh}
 
 -- how often v stands in a list: where no cell names a corner twice, how many cells of a flat table hold it
 unfoldable pub times : ℕ → List ℕ → ℕ
@@ -14,5 +15,9 @@ irregular_by points segments quads hexes =
     (not (eqb points 1))
 
 -- the same of the tables of a mesh
-abbrev pub irregular_in : List ℕ → List ℕ → List ℕ → List ℕ → ℕ → Bool
-irregular_in hexes quads segments points v = irregular_by (times v points) (times v segments) (times v quads) (times v hexes)
+abbrev pub irregular_in : Mesh → ℕ → Bool
+irregular_in m v = irregular_by (times v m.points) (times v m.segments) (times v m.quads) (times v m.hexes)
+
+-- how many corners the cells of all tables have
+abbrev pub corner_count : Mesh → ℕ
+corner_count m = length m.hexes + (length m.quads + (length m.segments + length m.points))

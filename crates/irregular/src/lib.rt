@@ -6,63 +6,45 @@
 #![tactic(auto)]
 
 ghost use Rattle.std.specs.Prelude.{◌≡◌};
-ghost use Rattle.rules.specs.Mesh.{mesh, topology};
+ghost use Rattle.rules.specs.Answers.{count_answer_of};
+ghost use Rattle.rules.specs.Mesh.{topology};
 ghost use Rattle.rules.specs.Refusals.{mesh_checks};
 ghost use Rattle.rules.specs.EntryPoints.{cleared, irregular_count, irregular_answer};
+ghost use Rattle.tables.specs.Lent.{mesh_in};
 
-use rules::CountAnswer;
+use rules::Refusal;
+use tables::MeshTables;
 
 // With two lent numbers for each vertex of a window.
 mod tallies;
 
 // The count, of a mesh that passes the checks. Where little is lent, an array of its own serves instead.
-fn count(
-    xs: &[i32],
-    hexes: &[u32],
-    quads: &[u32],
-    segments: &[u32],
-    points: &[u32],
-    words: &mut [u32],
-) -> u64
-    requires { mesh_checks (mesh xs.now hexes.now quads.now segments.now points.now) 0 ≡ 0 }
-    ensures { result ≡ irregular_count (topology
-        (mesh xs.now hexes.now quads.now segments.now points.now)) }
+fn count(mesh: MeshTables, words: &mut [u32]) -> u64
+    requires { mesh_checks (mesh_in mesh) 0 ≡ 0 }
+    ensures { result ≡ irregular_count (topology (mesh_in mesh.entry)) }
 {
-    let n = xs.len() / 3;
-    let corners = hexes.len() + (quads.len() + (segments.len() + points.len()));
+    let corners = mesh.hexes.len() + (mesh.quads.len() + (mesh.segments.len() + mesh.points.len()));
     if checks::is_little(words.len(), corners) {
         let mut own = [0u32; 8192];
-        return tallies::count(&mut own, n, hexes, quads, segments, points);
+        return tallies::count(&mut own, mesh);
     }
-    tallies::count(words, n, hexes, quads, segments, points)
+    tallies::count(words, mesh)
 }
 
-// An answer; the lent numbers are cleared, whichever it is.
-fn answer(words: &mut [u32], refusal: u32, count: u64) -> CountAnswer
-    ensures answer { (result.refusal ≡ refusal) × (result.count ≡ count) }
-    ensures words { words.new ≡ cleared words.old }
+// The refusal, or the count; what is left in the lent numbers is not said.
+fn check_and_count(mesh: MeshTables, words: &mut [u32]) -> Result<u64, Refusal>
+    ensures { count_answer_of result ≡ irregular_answer (mesh_in mesh.entry) }
 {
-    memory::clear_u32(words);
-    CountAnswer { refusal, count }
+    checks::check_mesh(mesh, words)?;
+    Ok(count(mesh, words))
 }
 
-// How many vertices are irregular.
-pub fn irregular_count(
-    xs: &[i32],
-    hexes: &[u32],
-    quads: &[u32],
-    segments: &[u32],
-    points: &[u32],
-    words: &mut [u32],
-) -> CountAnswer
-    ensures answer { result ≡ irregular_answer (mesh xs.now hexes.now quads.now segments.now points.now) }
+// How many vertices are irregular; the lent numbers are cleared, whatever the answer is.
+pub fn irregular_count(mesh: MeshTables, words: &mut [u32]) -> Result<u64, Refusal>
+    ensures answer { count_answer_of result ≡ irregular_answer (mesh_in mesh.entry) }
     ensures words { words.new ≡ cleared words.old }
 {
-    let checked = checks::check_mesh(xs, hexes, quads, segments, points, words);
-    let refusal = checked.refusal;
-    if refusal != 0 {
-        return answer(words, refusal, 0);
-    }
-    let count = count(xs, hexes, quads, segments, points, words);
-    answer(words, 0, count)
+    let found = check_and_count(mesh, words);
+    words.fill(0);
+    found
 }

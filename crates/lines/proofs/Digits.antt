@@ -1,5 +1,5 @@
 -- The decimal digits of a number, from the last, and how many there are. Assumes nothing.
-use mathlib.Core.Path.{◌≡◌, refl, sym, ap}
+use mathlib.Core.Path.{◌≡◌, refl, sym, ap, ◌∙◌}
 use mathlib.Core.Bool.{Bool, true, false, cond}
 use mathlib.Core.Logic.{⊎_elim}
 use mathlib.Core.List.{List, [], ◌∷◌, ◌++◌}
@@ -12,6 +12,9 @@ use lib.IntN.{ℤ, pos, negsuc, nat_abs}
 use lib.Signed.{lt_z}
 use borrow.Author.Tests.{ltb-true, ltb-false, lt-ltb, le-ltb}
 use Rattle.rules.specs.Listing.{decimal_in, decimal, signed_decimal}
+use mir.Syntax.{w64}
+use mir.Val.{SFits, to_z, of_z}
+use mir.Facts.{to_z-of_z, to_z_pos}
 use Rattle.lists.proofs.Tests.{either, false≢true}
 
 -- the count of digits that is allowed does not matter, if there are enough
@@ -55,3 +58,16 @@ pub signed_above : (z : ℤ) → lt_z z (pos 0) ≡ false → signed_decimal z �
 unfolding signed_decimal
 signed_above (pos n) h = refl
 signed_above (negsuc n) h = absurd (false≢true (sym h))
+
+-- a signed number is handed on by its bits
+pub shown : (z : ℤ) → SFits w64 z → signed_decimal (to_z w64 (of_z w64 z)) ≡ signed_decimal z
+shown z h = ap signed_decimal (to_z-of_z h)
+
+-- and one that is not below zero has the digits of its magnitude
+pub shown_word : (z : ℤ) (n : ℕ) → z ≡ pos n → n < 2 ^ 32 → signed_decimal (to_z w64 (of_z w64 z)) ≡ decimal n
+unfolding signed_decimal
+shown_word z n e h = shown z (rw e (record { sfits = omega arith })) ∙ rw e refl
+
+pub shown_size : (n k : ℕ) → n ≡ k → k ≤ 256 → signed_decimal (to_z w64 n) ≡ decimal k
+unfolding signed_decimal
+shown_size n k e h = ap signed_decimal (to_z_pos w64 (omega arith)) ∙ ap decimal e

@@ -1,37 +1,20 @@
 -- The cells that hold a vertex, counted one by one; which table decides. Assumes nothing.
 use mathlib.Core.Path.{◌≡◌, refl, sym, ap, ◌∙◌}
-use mathlib.Core.Bool.{Bool, true, false, cond}
-use mathlib.Core.List.{List, [], ◌∷◌, ◌++◌}
-use Prim.Native.Nat.{ℕ, suc, ◌+◌, ◌<◌}
+use mathlib.Core.Bool.{Bool}
+use mathlib.Core.List.{List, [], ◌∷◌}
+use Prim.Native.Nat.{ℕ}
 use native.Mathlib.Omega.{arith}
-use lib.ListN.{length, get_or, take, length-append}
-use lib.Seq.{take-suc}
+use lib.ListN.{length}
+use Rattle.std.specs.List.{filter}
 use Rattle.rules.specs.Lists.{keep}
 use Rattle.rules.specs.Mesh.{Topology}
 use Rattle.rules.specs.Averaging.{holding, Counted, or_else, counted, rank, valence}
 
-module _ {A : Type 0} (p : A → Bool) where
-  keep_append : (xs ys : List A) → keep p (xs ++ ys) ≡ keep p xs ++ keep p ys
-  unfolding keep
-  keep_append [] ys = refl
-  keep_append (x ∷ xs) ys = rw (keep_append xs ys) (go (p x))
-    where
-      go : (b : Bool) → cond b (x ∷ (keep p xs ++ keep p ys)) (keep p xs ++ keep p ys) ≡ cond b (x ∷ keep p xs) (keep p xs) ++ keep p ys
-      go true = refl
-      go false = refl
-
-  -- one element more is looked at
-  pub keep_turn : (xs : List A) (i : ℕ) (z : A) → i < length xs → length (keep p (take (suc i) xs)) ≡ length (keep p (take i xs)) + cond (p (get_or xs i z)) 1 0
-  unfolding keep
-  keep_turn xs i z h =
-      ap (λ (l : List A). length (keep p l)) (take-suc xs i z h)
-      ∙ ap length (keep_append (take i xs) (get_or xs i z ∷ []))
-      ∙ length-append (keep p (take i xs)) (keep p (get_or xs i z ∷ []))
-      ∙ ap (λ (n : ℕ). length (keep p (take i xs)) + n) (go (p (get_or xs i z)))
-    where
-      go : (b : Bool) → length (cond b (get_or xs i z ∷ []) []) ≡ cond b 1 0
-      go true = refl
-      go false = refl
+-- the library's word for what passes a test
+pub filter_keep : {A : Type 0} (p q : A → Bool) → ((x : A) → p x ≡ q x) → (xs : List A) → filter p xs ≡ keep q xs
+unfolding keep
+filter_keep p q same [] = refl
+filter_keep p q same (x ∷ xs) = rw (same x, filter_keep p q same xs)
 
 -- ---- which table decides
 

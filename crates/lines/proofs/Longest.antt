@@ -13,15 +13,20 @@ use Rattle.rules.specs.Averaging.{holding, Counted, or_else, counted, rank, vale
 use Rattle.rules.specs.Counts.{counts_of}
 use Rattle.rules.specs.Refusals.{outside, coordinate_out_of_range}
 use Rattle.rules.specs.Text.{text}
-use Rattle.rules.specs.Listing.{decimal, signed_decimal, fields, line, mesh_line, vertex_line, cell_lines, mesh_lines, refused_line}
+use Rattle.rules.specs.Listing.{decimal, signed_decimal, fields, line, mesh_line, vertex_line, cell_lines, refused_line}
 use Rattle.lists.specs.Membership.{In}
 use Rattle.lists.proofs.Tests.{none_at}
 use Rattle.lists.proofs.Membership.{in_get_or, length_keep, in_up_from, length_up_from}
 use Rattle.lists.proofs.Tables.{length_cut, length_entry, cut_entry}
 use Rattle.integers.specs.Range.{InRange}
 use Rattle.integers.proofs.Range.{inside}
-use Rattle.lines.specs.Fitting.{Fitting, output_size}
-use Rattle.lines.proofs.Digits.{few_digits}
+use Rattle.lines.specs.declared.text.Text.{Text}
+use Rattle.lines.specs.Appended.{Room}
+use Rattle.lines.specs.Fitting.{Fitting}
+use mir.Syntax.{w32, w64}
+use mir.Val.{to_z, of_z}
+use mir.Facts.{to_z-of_z}
+use Rattle.lines.proofs.Digits.{few_digits, shown}
 use Rattle.lines.proofs.Fields.{vertex_line_lem}
 
 -- a field of at most 10 bytes
@@ -77,6 +82,9 @@ cell_length letter k table w cell i =
 pub cells_length : (letter k : ℕ) (table : List ℕ) → Words table → length (cell_lines (letter ∷ []) (cut k table)) ≤ (11 * k + 2) * (length table / k)
 unfolding cell_lines
 cells_length letter k table w = rw (← length_cut k table) (runs_length _ (11 * k + 2) (cut k table) (cell_length letter k table w))
+
+pub room_for_cells : {t : Text} (letter k : ℕ) (table : List ℕ) → t.length + (11 * k + 2) * (length table / k) ≤ length t.buffer.now → Words table → Room t (cell_lines (letter ∷ []) (cut k table))
+room_for_cells letter k table r w = record { fits = omega (arith, r, cells_length letter k table w) }
 
 -- ---- vertices
 
@@ -140,7 +148,7 @@ module _ (m : Mesh) (f : Fitting m) where
         ),
       ))
 
-  first_length : length (mesh_line (counts_of m)) ≤ 60
+  pub first_length : length (mesh_line (counts_of m)) ≤ 60
   unfolding mesh_line counts_of
   first_length =
       let c = counts_of m in
@@ -161,9 +169,29 @@ module _ (m : Mesh) (f : Fitting m) where
         ),
       )
 
-  pub mesh_lines_length : Words m.hexes → Words m.quads → Words m.segments → Words m.points → length (mesh_lines m) ≤ output_size
-  unfolding mesh_lines topology
-  mesh_lines_length h q s p =
+  pub vertices_length : length (concat_map (vertex_line m (topology m)) (up_from 0 (length m.vertices / 3))) ≤ 68 * (length m.vertices / 3)
+  vertices_length =
       let n = length m.vertices / 3 in
       let v = runs_length (vertex_line m (topology m)) 68 (up_from 0 n) (λ x i. vertex_length x (omega (arith, (in_up_from 0 n x i).1))) in
-      simp length-append (omega (arith, first_length, v, length_up_from 0 n, cells_length 104 8 m.hexes h, cells_length 113 4 m.quads q, cells_length 115 2 m.segments s, cells_length 112 1 m.points p))
+      omega (arith, v, length_up_from 0 n)
+
+  -- a rank and a valence are small
+  pub rank_small : (v : ℕ) → rank (topology m) v ≤ 3
+  unfolding rank
+  rank_small v = (ranked v).low
+
+  pub valence_small : (v : ℕ) → valence (topology m) v ≤ 256
+  unfolding valence
+  valence_small v = (ranked v).few
+
+  -- a coordinate is handed on by its bits, from 32 of them to 64
+  pub coordinate_shown : (i : ℕ) → i < length m.vertices → {y : ℤ} → y ≡ to_z w32 (of_z w32 (get_or m.vertices i (pos 0))) → signed_decimal (to_z w64 (of_z w64 y)) ≡ signed_decimal (get_or m.vertices i (pos 0))
+  unfolding coordinate_out_of_range
+  coordinate_shown i h {y} e =
+      let z = get_or m.vertices i (pos 0) in
+      let r : InRange z = (inside z).0 (none_at outside m.vertices (pos 0) f.near i h) in
+      let same : y ≡ z = e ∙ to_z-of_z {w = w32} (record { sfits = omega arith }) in
+      rw same (shown z (record { sfits = omega arith }))
+
+pub room_for_refusal : {t : Text} (n : ℕ) → t.length + 19 ≤ length t.buffer.now → n < 2 ^ 32 → Room t (refused_line n)
+room_for_refusal n r h = record { fits = omega (arith, refused_length n h) }

@@ -1,18 +1,19 @@
--- Words of inner contracts: bytes appended to what a buffer holds already: every function that prints promises this, and needs this room.
+-- Words of inner contracts: bytes appended to a text: every function that prints promises this, and needs this room.
 use Rattle.std.specs.Prelude.{◌≡◌, List, ℕ, ◌+◌, ◌≤◌, length}
 use Rattle.std.proofs.lemmas.List.Edits.{sets}
-use Rattle.rules.specs.Lists.{overwritten}
+use Rattle.lines.specs.declared.text.Text.{Text}
 
--- the buffer has places for the bytes from `at` on
-pub record Room (buffer : List ℕ) (at : ℕ) (bytes : List ℕ) : Type 0 where
-  pub fits : at + length bytes ≤ length buffer
+-- the buffer has places for the bytes behind the text
+pub record Room (t : Text) (bytes : List ℕ) : Type 0 where
+  pub fits : t.length + length bytes ≤ length t.buffer.now
 
--- The bytes are stored in the buffer `old` from `at` on, nothing else is changed, and `next` is the place behind them.
-pub record Appended (old new : List ℕ) (at next : ℕ) (bytes : List ℕ) : Type 0 where
-  pub stored : new ≡ sets old at bytes
-  pub behind : next ≡ at + length bytes
+-- The bytes are stored behind the text, in the very buffer that was lent, and nothing else is changed in it.
+pub record Appended (old new : Text) (bytes : List ℕ) : Type 0 where
+  pub same_buffer : new.buffer.ghost_name ≡ old.buffer.ghost_name
+  pub stored : new.buffer.now ≡ sets old.buffer.now old.length bytes
+  pub behind : new.length ≡ old.length + length bytes
 
--- The bytes stand at the front of the buffer, the rest of it is unchanged, and `count` says how many they are.
-pub record Printed (old new : List ℕ) (count : ℕ) (bytes : List ℕ) : Type 0 where
-  pub counted : count ≡ length bytes
-  pub output : new ≡ overwritten old bytes
+-- a text that has room for some bytes ends with them
+pub record Printed (old new : Text) (bytes : List ℕ) : Type 0 where
+  pub room : Room old bytes
+  pub appended : Appended old new bytes

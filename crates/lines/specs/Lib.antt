@@ -3,3 +3,5 @@
 pub mod Appended
 -- Fitting: the meshes whose listing fits the output.
 pub mod Fitting
+-- Kinds: the corners and the letter of a kind of cells.
+pub mod Kinds

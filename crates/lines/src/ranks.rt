@@ -1,10 +1,13 @@
 // The rank and the valence of one vertex, by a walk through the tables.
-ghost use Rattle.std.specs.Prelude.{◌≡◌, [], ◌<◌, length};
+ghost use Rattle.std.specs.Prelude.{◌≡◌, length};
 ghost use Rattle.rules.specs.Lists.{cut};
-ghost use Rattle.rules.specs.Mesh.{mesh, topology};
+ghost use Rattle.rules.specs.Mesh.{topology};
 ghost use Rattle.rules.specs.Averaging.{holding, rank, valence};
+ghost use Rattle.tables.specs.Lent.{mesh_in};
+ghost use Rattle.lines.specs.Kinds.{corners_of};
 
-use checks::cells::has_number;
+use crate::kinds::Kind;
+use tables::MeshTables;
 
 #[derive(Clone, Copy)]
 pub struct Ranked {
@@ -12,53 +15,44 @@ pub struct Ranked {
     pub valence: usize,
 }
 
-// How many cells of a table hold vertex v; a cell has k corners.
-fn count_holding(v: u32, k: usize, table: &[u32]) -> usize
-    requires { 0 < k }
-    ensures { result ≡ length (holding v (cut k table.now)) }
+// How many cells of a table hold vertex v.
+fn count_holding(v: u32, kind: Kind, table: &[u32]) -> usize
+    ensures { result ≡ length (holding v (cut (corners_of kind) table.now)) }
 {
-    let n = table.len() / k;
-    let mut count = 0;
-    let mut c = 0;
-    while c < n {
-        let start = k * c;
-        let end = start + k;
-        if has_number(v, &table[start..end]) {
-            count += 1;
-        }
-        c += 1;
-    }
-    count
+    table
+        .chunks_exact(kind.corners())
+        .filter(|cell| cell.contains(&v))
+        .count()
 }
 
 // The table of the lowest dimension that has a cell with the vertex decides.
-pub fn rank_of(v: u32, hexes: &[u32], quads: &[u32], segments: &[u32], points: &[u32]) -> Ranked
-    ensures { let t = topology (mesh [] hexes.now quads.now segments.now points.now) in (result.rank ≡ rank t v) × (result.valence ≡ valence t v) }
+pub fn rank_of(v: u32, mesh: MeshTables) -> Ranked
+    ensures ranks { result.rank ≡ rank (topology (mesh_in mesh.entry)) v }
+    ensures counts { result.valence ≡ valence (topology (mesh_in mesh.entry)) v }
 {
-    let p = count_holding(v, 1, points);
-    if p != 0 {
+    let points = count_holding(v, Kind::Point, mesh.points);
+    if points != 0 {
         return Ranked {
             rank: 0,
-            valence: p,
+            valence: points,
         };
     }
-    let s = count_holding(v, 2, segments);
-    if s != 0 {
+    let segments = count_holding(v, Kind::Segment, mesh.segments);
+    if segments != 0 {
         return Ranked {
             rank: 1,
-            valence: s,
+            valence: segments,
         };
     }
-    let q = count_holding(v, 4, quads);
-    if q != 0 {
+    let quads = count_holding(v, Kind::Quad, mesh.quads);
+    if quads != 0 {
         return Ranked {
             rank: 2,
-            valence: q,
+            valence: quads,
         };
     }
-    let h = count_holding(v, 8, hexes);
     Ranked {
         rank: 3,
-        valence: h,
+        valence: count_holding(v, Kind::Hex, mesh.hexes),
     }
 }

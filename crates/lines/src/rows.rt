@@ -1,191 +1,98 @@
 // The lines of a mesh: each function appends one kind of them.
-ghost use Rattle.std.specs.Prelude.{[], ◌∷◌, ◌++◌, map, ◌/◌, ◌<◌, ◌≤◌, length};
+ghost use Rattle.std.specs.Prelude.{[], ◌∷◌, ◌+◌, ◌*◌, ◌/◌, ◌<◌, ◌≤◌, length};
 ghost use Rattle.rules.specs.Lists.{concat_map, cut, up_from};
-ghost use Rattle.rules.specs.Mesh.{mesh, topology};
-ghost use Rattle.rules.specs.Text.{text};
-ghost use Rattle.rules.specs.Listing.{decimal, signed_decimal, fields, line, mesh_line, vertex_line, cell_lines, mesh_lines, refused_line};
+ghost use Rattle.rules.specs.Mesh.{topology};
+ghost use Rattle.rules.specs.Counts.{counts_of};
+ghost use Rattle.rules.specs.Answers.{number_of};
+ghost use Rattle.rules.specs.Listing.{mesh_line, vertex_line, cell_lines, mesh_lines, refused_line};
+ghost use Rattle.tables.specs.Lent.{mesh_in};
 ghost use Rattle.lines.specs.Appended.{Room, Appended, Printed};
+ghost use Rattle.lines.specs.Kinds.{corners_of, letter_of};
 ghost use Rattle.lines.specs.Fitting.{Fitting, output_size};
 
-use crate::ranks::Ranked;
-use crate::{append, ranks};
-use rules::Counts;
-
-// Numbers, each behind a space, and the line feed.
-fn append_fields(numbers: &[u32], out: &mut [u8], at: usize) -> usize
-    requires { Room out.old at (fields (map decimal numbers.now)) }
-    ensures { Appended out.old out.new at result (fields (map decimal numbers.now)) }
-{
-    let mut next = at;
-    let mut i = 0;
-    while i < numbers.len() {
-        next = append::append_field(numbers[i] as usize, out, next);
-        i += 1;
-    }
-    append::append_byte(b'\n', out, next)
-}
+use crate::kinds::Kind;
+use crate::ranks::rank_of;
+use crate::text::Text;
+use rules::Refusal;
+use tables::MeshTables;
 
 // The first line: `mesh` and the counts.
-fn append_mesh_line(c: Counts, out: &mut [u8], at: usize) -> usize
-    requires { Room out.old at (mesh_line c) }
-    ensures { Appended out.old out.new at result (mesh_line c) }
+fn push_mesh_line(mesh: MeshTables, out: &mut Text)
+    requires fitting { Fitting (mesh_in mesh) }
+    requires room { Room out.old (mesh_line (counts_of (mesh_in mesh))) }
+    ensures { Appended out.old out.new (mesh_line (counts_of (mesh_in mesh.entry))) }
 {
-    let counts = [c.vertices, c.hexes, c.quads, c.segments, c.points];
-    let next = append::append_word(b"mesh", out, at);
-    append_fields(&counts, out, next)
+    let counts = [
+        (mesh.vertices.len() / 3) as u32,
+        (mesh.hexes.len() / 8) as u32,
+        (mesh.quads.len() / 4) as u32,
+        (mesh.segments.len() / 2) as u32,
+        mesh.points.len() as u32,
+    ];
+    out.push_line(b"mesh", &counts);
 }
 
-// A cell's line: the letter of its kind and its corners.
-fn append_cell_line(letter: u8, cell: &[u32], out: &mut [u8], at: usize) -> usize
-    requires { Room out.old at (line (letter ∷ []) (map decimal cell.now)) }
-    ensures { Appended out.old out.new at result (line (letter ∷ []) (map decimal cell.now)) }
+// The lines of a table: for each cell the letter of its kind and its corners, 11 bytes at most for a corner.
+fn push_cell_lines(kind: Kind, table: &[u32], out: &mut Text)
+    requires { out.old.length + (11 * corners_of kind + 2) * (length table.now / corners_of kind) ≤ length out.old.buffer.now }
+    ensures lines { Appended out.old out.new (cell_lines (letter_of kind ∷ []) (cut (corners_of kind) table.now)) }
+    ensures short { length (cell_lines (letter_of kind ∷ []) (cut (corners_of kind) table.now)) ≤ (11 * corners_of kind + 2) * (length table.now / corners_of kind) }
 {
-    let next = append::append_byte(letter, out, at);
-    append_fields(cell, out, next)
-}
-
-// The lines of a table; a cell has k corners.
-fn append_cell_lines(letter: u8, k: usize, table: &[u32], out: &mut [u8], at: usize) -> usize
-    requires k_nonzero { 0 < k }
-    requires room { Room out.old at (cell_lines (letter ∷ []) (cut k table.now)) }
-    ensures { Appended out.old out.new at result (cell_lines (letter ∷ []) (cut k table.now)) }
-{
-    let n = table.len() / k;
-    let mut next = at;
-    let mut c = 0;
-    while c < n {
-        let start = k * c;
-        let end = start + k;
-        next = append_cell_line(letter, &table[start..end], out, next);
-        c += 1;
+    let word = [kind.letter()];
+    for cell in table.chunks_exact(kind.corners()) {
+        out.push_line(&word, cell);
     }
-    next
 }
 
-// The coordinates of a vertex.
-fn append_position(x: i32, y: i32, z: i32, out: &mut [u8], at: usize) -> usize
-    requires { Room out.old at ((text " " ++ signed_decimal x) ++ ((text " " ++ signed_decimal y) ++ (text " " ++ signed_decimal z))) }
-    ensures { Appended out.old out.new at result ((text " " ++ signed_decimal x) ++ ((text " " ++ signed_decimal y) ++ (text " " ++ signed_decimal z))) }
+// The line of vertex v: its number, its coordinates, its rank and its valence.
+fn push_vertex_line(v: u32, mesh: MeshTables, out: &mut Text)
+    requires fitting { Fitting (mesh_in mesh) }
+    requires v_in_bounds { v < length (mesh_in mesh).vertices / 3 }
+    requires room { let m = mesh_in mesh in Room out.old (vertex_line m (topology m) v) }
+    ensures { let m = mesh_in mesh.entry in Appended out.old out.new (vertex_line m (topology m) v) }
 {
-    let a = append::append_signed_field(x, out, at);
-    let b = append::append_signed_field(y, out, a);
-    append::append_signed_field(z, out, b)
-}
-
-// The end of a vertex's line: its rank and its valence.
-fn append_rank(r: Ranked, out: &mut [u8], at: usize) -> usize
-    requires { Room out.old at (fields (decimal r.rank ∷ decimal r.valence ∷ [])) }
-    ensures { Appended out.old out.new at result (fields (decimal r.rank ∷ decimal r.valence ∷ [])) }
-{
-    let a = append::append_field(r.rank, out, at);
-    let b = append::append_field(r.valence, out, a);
-    append::append_byte(b'\n', out, b)
-}
-
-// The line of vertex v at x, y, z.
-fn append_vertex(v: u32, x: i32, y: i32, z: i32, r: Ranked, out: &mut [u8], at: usize) -> usize
-    requires { Room out.old at (line (text "v") (decimal v ∷ signed_decimal x ∷ signed_decimal y ∷ signed_decimal z ∷ decimal r.rank ∷ decimal r.valence ∷ [])) }
-    ensures { Appended out.old out.new at result (line (text "v") (decimal v ∷ signed_decimal x ∷ signed_decimal y ∷ signed_decimal z ∷ decimal r.rank ∷ decimal r.valence ∷ [])) }
-{
-    let a = append::append_byte(b'v', out, at);
-    let b = append::append_field(v as usize, out, a);
-    let c = append_position(x, y, z, out, b);
-    append_rank(r, out, c)
-}
-
-// The same from the tables.
-fn append_vertex_line(
-    v: u32,
-    xs: &[i32],
-    hexes: &[u32],
-    quads: &[u32],
-    segments: &[u32],
-    points: &[u32],
-    out: &mut [u8],
-    at: usize,
-) -> usize
-    requires v_in_bounds { v < length xs.now / 3 }
-    requires room { let m = mesh xs.now hexes.now quads.now segments.now points.now in Room out.old at (vertex_line m (topology m) v) }
-    ensures { let m = mesh xs.now hexes.now quads.now segments.now points.now in Appended out.old out.new at result (vertex_line m (topology m) v) }
-{
-    let i = 3 * (v as usize);
-    let r = ranks::rank_of(v, hexes, quads, segments, points);
-    append_vertex(v, xs[i], xs[i + 1], xs[i + 2], r, out, at)
+    let i = 3 * v as usize;
+    let ranked = rank_of(v, mesh);
+    out.push_word(b"v");
+    out.push_field(i64::from(v));
+    out.push_field(i64::from(mesh.vertices[i]));
+    out.push_field(i64::from(mesh.vertices[i + 1]));
+    out.push_field(i64::from(mesh.vertices[i + 2]));
+    out.push_field(ranked.rank as i64);
+    out.push_field(ranked.valence as i64);
+    out.push_byte(b'\n');
 }
 
 // The lines of all vertices.
-fn append_vertex_lines(
-    xs: &[i32],
-    hexes: &[u32],
-    quads: &[u32],
-    segments: &[u32],
-    points: &[u32],
-    out: &mut [u8],
-    at: usize,
-) -> usize
-    requires xs_len_bound { length xs.now ≤ 3_000 }
-    requires room { let m = mesh xs.now hexes.now quads.now segments.now points.now in Room out.old at (concat_map (vertex_line m (topology m)) (up_from 0 (length xs.now / 3))) }
-    ensures { let m = mesh xs.now hexes.now quads.now segments.now points.now in Appended out.old out.new at result (concat_map (vertex_line m (topology m)) (up_from 0 (length xs.now / 3))) }
+fn push_vertex_lines(mesh: MeshTables, out: &mut Text)
+    requires fitting { Fitting (mesh_in mesh) }
+    requires room { let m = mesh_in mesh in Room out.old (concat_map (vertex_line m (topology m)) (up_from 0 (length m.vertices / 3))) }
+    ensures { let m = mesh_in mesh.entry in Appended out.old out.new (concat_map (vertex_line m (topology m)) (up_from 0 (length m.vertices / 3))) }
 {
-    let n = (xs.len() / 3) as u32;
-    let mut next = at;
-    let mut v = 0;
-    while v < n {
-        next = append_vertex_line(v, xs, hexes, quads, segments, points, out, next);
-        v += 1;
+    let n = (mesh.vertices.len() / 3) as u32;
+    for v in 0..n {
+        push_vertex_line(v, mesh, out);
     }
-    next
 }
 
-// The lines of all cells, kind after kind.
-fn append_cells(
-    hexes: &[u32],
-    quads: &[u32],
-    segments: &[u32],
-    points: &[u32],
-    out: &mut [u8],
-    at: usize,
-) -> usize
-    requires { Room out.old at (cell_lines (text "h") (cut 8 hexes.now) ++ (cell_lines (text "q") (cut 4 quads.now) ++ (cell_lines (text "s") (cut 2 segments.now) ++ cell_lines (text "p") (cut 1 points.now)))) }
-    ensures { Appended out.old out.new at result (cell_lines (text "h") (cut 8 hexes.now) ++ (cell_lines (text "q") (cut 4 quads.now) ++ (cell_lines (text "s") (cut 2 segments.now) ++ cell_lines (text "p") (cut 1 points.now)))) }
+// All lines of a mesh; cells come kind after kind.
+pub fn push_mesh_lines(mesh: MeshTables, out: &mut Text)
+    requires fitting { Fitting (mesh_in mesh) }
+    requires output_size_in_bounds { out.old.length + output_size ≤ length out.old.buffer.now }
+    ensures { Printed out.old out.new (mesh_lines (mesh_in mesh.entry)) }
 {
-    let a = append_cell_lines(b'h', 8, hexes, out, at);
-    let b = append_cell_lines(b'q', 4, quads, out, a);
-    let c = append_cell_lines(b's', 2, segments, out, b);
-    append_cell_lines(b'p', 1, points, out, c)
+    push_mesh_line(mesh, out);
+    push_vertex_lines(mesh, out);
+    push_cell_lines(Kind::Hex, mesh.hexes, out);
+    push_cell_lines(Kind::Quad, mesh.quads, out);
+    push_cell_lines(Kind::Segment, mesh.segments, out);
+    push_cell_lines(Kind::Point, mesh.points, out);
 }
 
-// All lines of a mesh, from the front of the buffer on.
-pub fn mesh_lines(
-    xs: &[i32],
-    hexes: &[u32],
-    quads: &[u32],
-    segments: &[u32],
-    points: &[u32],
-    out: &mut [u8],
-) -> usize
-    requires fitting { Fitting (mesh xs.now hexes.now quads.now segments.now points.now) }
-    requires output_size_in_bounds { output_size ≤ length out.old }
-    ensures { let m = mesh xs.now hexes.now quads.now segments.now points.now in Printed out.old out.new result (mesh_lines m) }
+// The one line of a refusal: a word of 7 bytes, a space, 10 digits at most, a line feed.
+pub fn push_refused_line(refusal: Refusal, out: &mut Text)
+    requires { out.old.length + 19 ≤ length out.old.buffer.now }
+    ensures { Printed out.old out.new (refused_line (number_of refusal)) }
 {
-    let counts = Counts {
-        vertices: (xs.len() / 3) as u32,
-        hexes: (hexes.len() / 8) as u32,
-        quads: (quads.len() / 4) as u32,
-        segments: (segments.len() / 2) as u32,
-        points: points.len() as u32,
-    };
-    let a = append_mesh_line(counts, out, 0);
-    let b = append_vertex_lines(xs, hexes, quads, segments, points, out, a);
-    append_cells(hexes, quads, segments, points, out, b)
-}
-
-// The one line of a refusal, from the front of the buffer on: a word of 7 bytes, a space, 10 digits at most, a line feed.
-pub fn refused_line(number: u32, out: &mut [u8]) -> usize
-    requires { 19 ≤ length out.old }
-    ensures { Printed out.old out.new result (refused_line number) }
-{
-    let numbers = [number];
-    let next = append::append_word(b"refused", out, 0);
-    append_fields(&numbers, out, next)
+    out.push_line(b"refused", &[u32::from(refusal)]);
 }

@@ -11,6 +11,7 @@ fn read_full<R: Read>(reader: &mut R, buffer: &mut [u8]) -> io::Result<usize>
     ensures { IfOk result (λ n. n ≤ length buffer.old) }
 {
     let mut n = 0;
+    // How much a read gives is not known before it, so this is no range.
     while n < buffer.len() {
         let more = reader.read(&mut buffer[n..])?;
         if more == 0 {

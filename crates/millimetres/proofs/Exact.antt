@@ -1,6 +1,6 @@
 -- What is reported is the coordinate over 1024, with nothing rounded; and one division gives it.
 use mathlib.Core.Path.{◌≡◌, refl, sym, ap, ◌∙◌, subst}
-use mathlib.Core.Bool.{Bool, true, false, ◌||◌, true≢false}
+use mathlib.Core.Bool.{Bool, true, false, ◌||◌}
 use Prim.Native.Nat.{ℕ, zero, suc, ◌+◌, ◌-◌, ◌*◌, ◌/◌, ◌^◌, ◌≤◌, ◌<◌, zero-le}
 use native.Mathlib.Nat.{add_assoc, mul_right_comm, mul-one, mul_assoc, mul-pos, lt_of_lt_of_le}
 use native.Mathlib.Omega.{arith}
@@ -18,9 +18,7 @@ use lib.Ieee.Scale.{round_same}
 use lib.Ieee.Back.{round_whole}
 use lib.Ieee.Bits.{of_bits-to_bits}
 use Rattle.rules.specs.Refusals.{outside}
-use Rattle.rules.specs.declared.Millimetres.{Millimetres}
-use Rattle.rules.specs.declared.MillimetresAnswer.{MillimetresAnswer}
-use Rattle.rules.specs.EntryPoints.{in_millimetres, millimetres_refusal, millimetres_answer}
+use Rattle.rules.specs.EntryPoints.{in_millimetres}
 
 -- a coordinate is negative
 abbrev pub negative : ℤ → Bool
@@ -127,36 +125,3 @@ unfolding in_millimetres
 divided z e =
     let h = in_range_lem z e in
     quotient (of_int binary64 z) (negative z) (nat_abs z) (of_int_lem z (omega arith)) ∙ rounded (negative z) (nat_abs z) h
-
--- ---- check 3 of three coordinates
-
-pub record Inside (x y z : ℤ) : Type 0 where
-  pub first : outside x ≡ false
-  pub second : outside y ≡ false
-  pub third : outside z ≡ false
-
-pub none_outside : (x y z : ℤ) → (outside x || (outside y || outside z)) ≡ false → Inside x y z
-none_outside x y z e = go (outside x) (outside y) (outside z) refl refl refl e
-  where
-    go : (a b c : Bool) → outside x ≡ a → outside y ≡ b → outside z ≡ c → (a || (b || c)) ≡ false → Inside x y z
-    go false false false p q r e = record { first = p; second = q; third = r }
-    go false false true p q r e = absurd (true≢false e)
-    go false true c p q r e = absurd (true≢false e)
-    go true b c p q r e = absurd (true≢false e)
-
--- ---- the answer
-
--- three zeros
-abbrev origin : Millimetres
-origin = record { x = of_bits binary64 0; y = of_bits binary64 0; z = of_bits binary64 0 }
-
-module _ (x y z : ℤ) where
-  pub refused : (outside x || (outside y || outside z)) ≡ true
-      → ◌≡◌ {A = MillimetresAnswer} (record { refusal = 3; position = origin }) (millimetres_answer x y z)
-  unfolding millimetres_answer millimetres_refusal of_bits in_millimetres
-  refused e = rw e
-
-  pub accepted : (outside x || (outside y || outside z)) ≡ false
-      → ◌≡◌ {A = MillimetresAnswer} (record { refusal = 0; position = record { x = in_millimetres x; y = in_millimetres y; z = in_millimetres z } }) (millimetres_answer x y z)
-  unfolding millimetres_answer millimetres_refusal
-  accepted e = rw e

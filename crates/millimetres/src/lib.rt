@@ -1,20 +1,14 @@
-// The millimetre report: a vertex's position as three 64-bit floats. Each is the unit count over 1024, exactly, or three zeros and
-// refusal 3. Rests on the definitions of `rules` and on check 3 of one coordinate; no `requires`.
+// The millimetre report: a vertex's position as three 64-bit floats. Each is the unit count over 1024, exactly, or the report is refused.
+// Rests on the definitions of `rules` and on check 3 of one coordinate; no `requires`.
 #![tactic(auto)]
 
-ghost use Rattle.std.specs.Prelude.{◌≡◌, false, ◌||◌};
+ghost use Rattle.std.specs.Prelude.{◌≡◌, false};
+ghost use Rattle.rules.specs.Answers.{millimetres_answer_of};
 ghost use Rattle.rules.specs.Refusals.{outside};
 ghost use Rattle.rules.specs.EntryPoints.{in_millimetres, millimetres_answer};
 
-use checks::tables::is_outside;
-use rules::{Millimetres, MillimetresAnswer};
-
-// Check 3 of a position.
-fn any_outside(x: i32, y: i32, z: i32) -> bool
-    ensures { result ≡ (outside x || (outside y || outside z)) }
-{
-    is_outside(x) || (is_outside(y) || is_outside(z))
-}
+use checks::table_checks::is_outside;
+use rules::{Millimetres, Refusal};
 
 // One division: it is exact, because a 30-bit count is divided by a power of two.
 fn in_millimetres(z: i32) -> f64
@@ -25,25 +19,16 @@ fn in_millimetres(z: i32) -> f64
 }
 
 // The position of a vertex with the coordinates x, y, z.
-pub fn millimetres(x: i32, y: i32, z: i32) -> MillimetresAnswer
-    ensures { result ≡ millimetres_answer x y z }
+#[tactic(auto, unfolding(rules::specs::EntryPoints::millimetres_answer, rules::specs::EntryPoints::millimetres_refusal))]
+pub fn millimetres(x: i32, y: i32, z: i32) -> Result<Millimetres, Refusal>
+    ensures { millimetres_answer_of result ≡ millimetres_answer x y z }
 {
-    if any_outside(x, y, z) {
-        return MillimetresAnswer {
-            refusal: 3,
-            position: Millimetres {
-                x: 0.0,
-                y: 0.0,
-                z: 0.0,
-            },
-        };
+    if is_outside(x) || is_outside(y) || is_outside(z) {
+        return Err(Refusal::CoordinateOutOfRange);
     }
-    MillimetresAnswer {
-        refusal: 0,
-        position: Millimetres {
-            x: in_millimetres(x),
-            y: in_millimetres(y),
-            z: in_millimetres(z),
-        },
-    }
+    Ok(Millimetres {
+        x: in_millimetres(x),
+        y: in_millimetres(y),
+        z: in_millimetres(z),
+    })
 }

@@ -2,13 +2,16 @@
 use mathlib.Core.Path.{◌≡◌, refl, sym, ap, ◌∙◌}
 use mathlib.Core.List.{List}
 use Prim.Native.Nat.{ℕ, zero, suc}
-use lib.ListN.{length}
+use lib.ListN.{length, length-take}
+use native.Mathlib.Omega.{arith}
+use Rattle.rules.specs.declared.Counts.{Counts}
+use Prim.Native.Nat.{◌<◌, ◌*◌}
 use Rattle.rules.specs.declared.CountAnswer.{CountAnswer}
 use Rattle.rules.specs.declared.CountsAnswer.{CountsAnswer}
 use Rattle.rules.specs.Mesh.{Mesh, topology}
 use Rattle.rules.specs.Averaging.{refined}
 use Rattle.rules.specs.Refusals.{mesh_checks}
-use Rattle.rules.specs.EntryPoints.{result_buffer, irregular_count, irregular_answer}
+use Rattle.rules.specs.EntryPoints.{result_buffer, front_of, front, irregular_count, irregular_answer}
 use Rattle.rules.specs.StoredForm.{header_of, stored_mesh, stored_form, reading_refusal, reading_answer, writing_refusal, writing_answer, writing_output}
 use Rattle.rules.specs.Viewer.{fixed_counts, and_then, stored_refining_refusal, signed, viewer_refusal, viewer_answer, viewer_output, viewer_irregular_count}
 use Rattle.fixed.proofs.Answers.{Reading, answer_number}
@@ -71,3 +74,8 @@ module _ {s : List ℕ} {tables out : Mesh} {r : CountsAnswer} (d : Reading s ta
   unfolding viewer_irregular_count
   then_counted h =
       ap (λ (k : ℕ). signed (and_then k (mesh_checks (stored_mesh s) 0)) (irregular_count (topology (stored_mesh s)))) (sym h ∙ read_number)
+
+-- the front of tables is no longer than they are
+pub front_fits : (c : Counts) (t : Mesh) (b : ℕ) → length t.vertices < b → length (front c t).vertices < b
+unfolding front_of
+front_fits c t b h = omega (arith, length-take (3 * c.vertices) t.vertices)

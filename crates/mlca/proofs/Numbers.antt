@@ -11,7 +11,11 @@ use mir.Val.{SFits, to_z}
 use mir.Syntax.{w64}
 use mir.ValLaws.{to_z_pos}
 use borrow.Author.Tests.{ltb-false}
+use Rattle.std.specs.Prelude.{Result, Ok, Err, IfOk}
 use Rattle.rules.specs.declared.CountAnswer.{CountAnswer}
+use Rattle.rules.specs.declared.Refusal.{Refusal}
+use Rattle.rules.specs.Answers.{number_of, count_answer_of}
+use Rattle.fixed.proofs.Answers.{not_zero}
 use Rattle.rules.specs.Lists.{up_from}
 use Rattle.rules.specs.Mesh.{Mesh, topology}
 use Rattle.rules.specs.Refusals.{check, mesh_checks}
@@ -78,3 +82,14 @@ irregular_fits m w l e =
     let k : (count_answer (mesh_checks m 0) (irregular_count (topology m))).count < 2 ^ 63 =
     count_below (mesh_checks m 0) (irregular_count (topology m)) (2 ^ 63) (omega arith) (λ h. let s = irregular_few m in omega (arith, l, s)) in
     subst (λ (a : CountAnswer). a.count < 2 ^ 63) (sym e) k
+
+-- a count that fits, of a result
+pub fits_if_ok : (r : Result ℕ Refusal) (b : ℕ) → (count_answer_of r).count < b → IfOk r (λ (n : ℕ). n < b)
+fits_if_ok (Ok n) b h = h
+fits_if_ok (Err r) b h = tt
+
+pub signed_ok : (n : ℕ) → pos n ≡ signed (count_answer_of (Ok n)).refusal (count_answer_of (Ok n)).count
+signed_ok n = refl
+
+pub signed_err : (r : Refusal) → neg_ℤ (pos (number_of r)) ≡ signed (count_answer_of (Err r)).refusal (count_answer_of (Err r)).count
+signed_err r = below_zero (number_of r) 0 (not_zero r)

@@ -7,6 +7,7 @@ ghost use Rattle.rules.specs.EntryPoints.{front, finished_answer, refining_answe
 ghost use Rattle.rules.specs.StoredForm.{stored_form, stored_mesh, header_answer, reading_refusal, reading_answer, reading_output, writing_refusal, writing_answer, writing_output};
 
 use rules::{CountAnswer, CountsAnswer, MillimetresAnswer};
+use tables::{LentTables, MeshTables};
 
 // Refining, for every input: the answer of rule 9.2; the finished mesh at the front of the output tables, which a refusal leaves as they were;
 // all working memory zero; of each finished vertex and axis the third property; and every coordinate of every round in range.
@@ -48,26 +49,35 @@ pub extern "C" fn mlca_refine_tables(
     ensures range { let m = mesh vertices.now hexes.now quads.now segments.now points.now in
         (result.refusal ≡ 0 → range_kept rounds m ≡ replicate (suc rounds) true) }
 {
-    refine::refine(
+    let mesh = MeshTables {
         vertices,
         hexes,
         quads,
         segments,
         points,
+    };
+    let mut output = LentTables {
+        vertices: output_vertices,
+        hexes: output_hexes,
+        quads: output_quads,
+        segments: output_segments,
+        points: output_points,
+    };
+    let mut working = LentTables {
+        vertices: working_vertices,
+        hexes: working_hexes,
+        quads: working_quads,
+        segments: working_segments,
+        points: working_points,
+    };
+    CountsAnswer::from(refine::refine(
+        mesh,
         rounds,
-        output_vertices,
-        output_hexes,
-        output_quads,
-        output_segments,
-        output_points,
-        working_vertices,
-        working_hexes,
-        working_quads,
-        working_segments,
-        working_points,
+        &mut output,
+        &mut working,
         numbers32,
         numbers64,
-    )
+    ))
 }
 
 // The counts in a stored mesh's header, so that tables can be lent for reading. Neither the index width nor what stands behind the header is
@@ -76,7 +86,7 @@ pub extern "C" fn mlca_refine_tables(
 pub extern "C" fn mlca_stored_counts(stored: &[u8]) -> CountsAnswer
     ensures { result ≡ header_answer stored.now }
 {
-    stored::header_counts(stored)
+    CountsAnswer::from(stored::header_counts(stored))
 }
 
 // The counts of a mesh after its rounds, to lend memory by. The working numbers end all zero, and how many there are alters no answer.
@@ -93,7 +103,14 @@ pub extern "C" fn mlca_finished_counts(
     ensures answer { result ≡ finished_answer (mesh vertices.now hexes.now quads.now segments.now points.now) rounds }
     ensures words { numbers.new ≡ cleared numbers.old }
 {
-    plan::finished_counts(vertices, hexes, quads, segments, points, rounds, numbers)
+    let mesh = MeshTables {
+        vertices,
+        hexes,
+        quads,
+        segments,
+        points,
+    };
+    CountsAnswer::from(plan::finished_counts(mesh, rounds, numbers))
 }
 
 // Reads a stored mesh into the fronts of the lent tables. The mesh there, written into as many bytes, gives the same bytes.
@@ -110,7 +127,14 @@ pub extern "C" fn mlca_read_tables(
     ensures output { let tables = mesh vertices.old hexes.old quads.old segments.old points.old in mesh vertices.new hexes.new quads.new segments.new points.new ≡ reading_output stored.now tables }
     ensures inverse { let m = front result.counts (mesh vertices.new hexes.new quads.new segments.new points.new) in (result.refusal ≡ 0 → (writing_refusal m (length stored.now) ≡ 0) × (stored_form m ≡ stored.now)) }
 {
-    stored::read(stored, vertices, hexes, quads, segments, points)
+    let mut tables = LentTables {
+        vertices,
+        hexes,
+        quads,
+        segments,
+        points,
+    };
+    CountsAnswer::from(stored::read(stored, &mut tables))
 }
 
 // Writes a mesh into the front of the lent buffer. The bytes there, read into tables as long, give the same mesh.
@@ -127,7 +151,14 @@ pub extern "C" fn mlca_write_tables(
     ensures output { let m = mesh vertices.now hexes.now quads.now segments.now points.now in res.new ≡ writing_output m res.old }
     ensures inverse { let m = mesh vertices.now hexes.now quads.now segments.now points.now in let s = take result.count res.new in (result.refusal ≡ 0 → (reading_refusal s (counts_of m) ≡ 0) × (stored_mesh s ≡ m)) }
 {
-    stored::write(vertices, hexes, quads, segments, points, res)
+    let mesh = MeshTables {
+        vertices,
+        hexes,
+        quads,
+        segments,
+        points,
+    };
+    CountAnswer::from(stored::write(mesh, res))
 }
 
 // How many vertices are irregular. The working numbers end all zero, and how many there are alters no answer.
@@ -143,7 +174,14 @@ pub extern "C" fn mlca_irregular_count_tables(
     ensures answer { result ≡ irregular_answer (mesh vertices.now hexes.now quads.now segments.now points.now) }
     ensures words { numbers.new ≡ cleared numbers.old }
 {
-    irregular::irregular_count(vertices, hexes, quads, segments, points, numbers)
+    let mesh = MeshTables {
+        vertices,
+        hexes,
+        quads,
+        segments,
+        points,
+    };
+    CountAnswer::from(irregular::irregular_count(mesh, numbers))
 }
 
 // A vertex's position in millimetres, each the exact quotient.
@@ -151,5 +189,5 @@ pub extern "C" fn mlca_irregular_count_tables(
 pub extern "C" fn mlca_millimetres(x: i32, y: i32, z: i32) -> MillimetresAnswer
     ensures { result ≡ millimetres_answer x y z }
 {
-    millimetres::millimetres(x, y, z)
+    MillimetresAnswer::from(millimetres::millimetres(x, y, z))
 }

@@ -1,22 +1,22 @@
 -- The table in a list of numbers: what the code's reads and stores have to show, at any count c of numbers in a key. Assumes nothing.
 use mathlib.Core.Path.{◌≡◌, sym, ap, ◌∙◌, subst}
-use mathlib.Core.Bool.{true, false}
 use mathlib.Core.Logic.{inl}
 use mathlib.Core.List.{List, [], ◌∷◌, ◌++◌}
-use Prim.Native.Nat.{ℕ, suc, ◌+◌, ◌^◌, ◌-◌, ◌≤◌, ◌<◌}
+use Prim.Native.Nat.{ℕ, suc, ◌+◌, ◌^◌, ◌≤◌, ◌<◌}
 use native.Mathlib.Nat.{mul-le-mul_left, mod-lt}
 use native.Mathlib.Numerals.{add-one}
 use native.Mathlib.Omega.{arith}
 use lib.ListN.{length, get_or, set, drop, replicate, length-set, length-append, length-drop, length-replicate, get_or-replicate, get_or-append}
 use lib.Seq.{ext_get_or, sets, length-sets, get_or-set_same, get_or-set_other}
-use Rattle.rules.specs.Lists.{overwritten, Key, same, index_of, meet}
+use Rattle.rules.specs.Lists.{overwritten, Key, index_of, meet}
 use Rattle.lists.specs.Membership.{In}
-use Rattle.lists.proofs.Tests.{false≢true}
-use Rattle.lists.proofs.Keys.{same_refl, same_eq, ne_same}
+use Rattle.lists.proofs.Keys.{same_refl}
 use Rattle.lists.proofs.Distinct.{index_in, index_below, index_right, meet_known, meet_absent}
 use Rattle.memory.proofs.Stores.{sets_other}
 use Rattle.numbering.specs.Table.{firsts, run, slot_of, place, words_for, head_at, next_at, entry_key, keys, Table, Met}
+use Rattle.numbering.specs.Meeting.{Found}
 use Rattle.numbering.proofs.Firsts.{length_firsts, length_run, get_or_of_run, run_kept, run_sets}
+use Rattle.std.proofs.Common.{Some, None}
 use Rattle.numbering.proofs.Chains.{none_yet, Cursor, start, step, step_less, found, missing, fresh, Added, added, added_keys}
 
 -- ---- the slot
@@ -27,15 +27,13 @@ slot_below room k = mod-lt _ (omega arith)
 
 -- ---- a key that is compared number by number
 
-pub run_same : (w : List ℕ) (at : ℕ) (k : Key) → ((i : ℕ) → i < length k → get_or k i 0 ≡ get_or w (at + i) 0) → same k (run w at (length k)) ≡ true
+pub run_same : (w : List ℕ) (at : ℕ) (k : Key) → ((i : ℕ) → i < length k → get_or w (at + i) 0 ≡ get_or k i 0) → run w at (length k) ≡ k
 run_same w at k h =
-    let e : run w at (length k) ≡ k =
     ext_get_or 0 (run w at (length k)) k (length_run w at (length k))
-    (λ i l. let u : i < length k = omega (arith, length_run w at (length k)) in get_or_of_run w at (length k) i u ∙ sym (h i u)) in
-    rw e (same_refl k)
+    (λ i l. let u : i < length k = omega (arith, length_run w at (length k)) in get_or_of_run w at (length k) i u ∙ h i u)
 
-pub run_differs : (w : List ℕ) (at : ℕ) (k : Key) (i : ℕ) → i < length k → (get_or k i 0 ≡ get_or w (at + i) 0 → ⊥) → same k (run w at (length k)) ≡ false
-run_differs w at k i l d = ne_same k (run w at (length k)) (λ e. d (ap (λ (x : Key). get_or x i 0) e ∙ get_or_of_run w at (length k) i l))
+pub run_differs : (w : List ℕ) (at : ℕ) (k : Key) (i : ℕ) → i < length k → (get_or w (at + i) 0 ≡ get_or k i 0 → ⊥) → run w at (length k) ≡ k → ⊥
+run_differs w at k i l d e = d (sym (get_or_of_run w at (length k) i l) ∙ ap (λ (x : Key). get_or x i 0) e)
 
 -- ---- the empty table
 
@@ -59,6 +57,10 @@ table_prepared c w room fits few =
     table_empty c (z ++ drop (length z) w) room (rw long fits) few
     (λ h l. get_or-append z (drop (length z) w) 0 h (omega arith) ∙ get_or-replicate (room + 1) h 0 0 l)
 
+-- entry n lies within the list
+pub entry_ends : {c : ℕ} {w : List ℕ} {room n : ℕ} → Table c w room n → (e : ℕ) → e < room → place c room e + (c + 1) ≤ length w
+entry_ends {c} t e l = omega (arith, t.fits, mul-le-mul_left (c + 1) l)
+
 -- ---- a walk for k along its chain
 
 abbrev pub Walk : ℕ → List ℕ → ℕ → ℕ → Key → ℕ → Type 0
@@ -70,24 +72,25 @@ module _ {c : ℕ} {w : List ℕ} {room n : ℕ} (t : Table c w room n) (k : Key
   unfolding head_at
   walk_start s x p q = rw (q, p) (start t.chains k (slot_below room k))
 
-  -- it goes on past an entry with another key, to an older one
-  pub walk_on : (x y : ℕ) → 0 < x → Walk c w room n k x → false ≡ same k (run w (place c room (x - 1) + 1) c) → y ≡ get_or w (place c room (x - 1)) 0 → Walk c w room n k y × (y < x)
-  unfolding entry_key next_at
-  walk_on x y l v p q =
-      let u : x ≡ suc (x - 1) = omega arith in
-      let other : entry_key c w room (x - 1) ≡ k → ⊥ = λ h. false≢true (p ∙ ap (same k) h ∙ same_refl k) in
-      let below : x - 1 < n = omega (arith, v.within) in
-      (rw q (step t.chains k (x - 1) (rw u at v) other), omega (arith, step_less t.chains k (x - 1) below))
+  module _ (x e : ℕ) (u : x ≡ e + 1) (v : Walk c w room n k x) where
+    -- past an entry with another key the walk goes on to an older one
+    pub walk_on : (run w (place c room e + 1) c ≡ k → ⊥) → Walk c w room n k (get_or w (place c room e) 0) × (get_or w (place c room e) 0 < x)
+    unfolding entry_key next_at
+    walk_on other =
+        let x-is : x ≡ suc e = u ∙ add-one e in
+        (step t.chains k e (rw x-is at v) other, omega (arith, step_less t.chains k e (omega (arith, v.within))))
 
-  -- an entry with the key: its place
-  pub walk_hit : (x : ℕ) → 0 < x → Walk c w room n k x → true ≡ same k (run w (place c room (x - 1) + 1) c) → x - 1 ≡ index_of k (keys c w room n)
-  unfolding entry_key keys
-  walk_hit x l v p = sym (found t.chains k (x - 1) (omega (arith, v.within)) (sym (same_eq k (entry_key c w room (x - 1)) (sym p))))
+    -- an entry with the key: its place
+    pub walk_hit : run w (place c room e + 1) c ≡ k → Found (keys c w room n) k (Some e)
+    unfolding entry_key keys
+    walk_hit h =
+        (sym (found t.chains k e (omega (arith, v.within)) h), omega (arith, v.within, length_firsts (entry_key c w room) n))
 
   -- the chain's end: the key is not there
-  pub walk_end : (x : ℕ) → x ≤ 0 → Walk c w room n k x → n ≡ index_of k (keys c w room n)
+  pub walk_end : (x : ℕ) → x ≡ 0 → Walk c w room n k x → Found (keys c w room n) k None
   unfolding keys
-  walk_end x l v = sym (missing (entry_key c w room) k (λ e u. v.past e (omega arith) u)).1
+  walk_end x l v =
+      omega (arith, (missing (entry_key c w room) k (λ e u. v.past e (omega arith) u)).1, length_firsts (entry_key c w room) n)
 
 -- ---- a new entry
 
@@ -117,10 +120,6 @@ stored_added {c} {w} {w'} {room} {n} {k} s = record {
 -- the list with the new entry: the old head and the key behind the last entry, and the new head
 unfoldable pub entered : List ℕ → ℕ → ℕ → Key → List ℕ
 entered w room n k = set (sets w (place (length k) room n) (get_or w (slot_of room k) 0 ∷ k)) (slot_of room k) (n + 1)
-
--- entry n lies within the list
-pub entry_ends : {c : ℕ} {w : List ℕ} {room n : ℕ} → Table c w room n → (e : ℕ) → e < room → place c room e + (c + 1) ≤ length w
-entry_ends {c} t e l = omega (arith, t.fits, mul-le-mul_left (c + 1) l)
 
 index_last : (k : Key) → index_of k (k ∷ []) ≡ 0
 unfolding index_of

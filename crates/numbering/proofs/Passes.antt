@@ -2,20 +2,20 @@
 use mathlib.Core.Path.{◌≡◌, refl, sym, ap, ◌∙◌}
 use mathlib.Core.List.{List, [], ◌∷◌, ◌++◌, map, append_assoc, append-nil}
 use Prim.Native.Nat.{ℕ, suc, ◌+◌, ◌*◌, ◌/◌, ◌-◌, ◌≤◌, ◌<◌}
-use native.Mathlib.Nat.{mul-div-le, mul-le-mul_left}
+use native.Mathlib.Nat.{mul-div-le, mul-le-mul_left, div-lt_iff_lt-mul}
+use Rattle.std.proofs.lemmas.Nat.{le-div}
 use native.Mathlib.Numerals.{add-one}
 use native.Mathlib.Omega.{arith}
 use lib.ListN.{length, get_or, set, take, drop, length-append, length-drop, length-map, take-append-drop}
-use lib.Seq.{split_at, length-take-le, take_all, take-suc}
+use lib.Seq.{split_at, length-take-le, take_all, take_at, drop_at, drop-drop, take-suc}
 use Rattle.rules.specs.Lists.{concat_map, cut, up_from, Key, index_of, meet, meet_all, distinct}
 use Rattle.lists.specs.Membership.{In}
 use Rattle.lists.proofs.Membership.{get_or_map}
 use Rattle.lists.proofs.Once.{concat_map_append}
 use Rattle.lists.proofs.Tables.{cut_entry}
 use Rattle.lists.proofs.Distinct.{index_in, index_left, meet_all_append, meet_all_more}
-use Rattle.memory.proofs.Stores.{Storing, store_start, store_turn, store_end}
-use Rattle.numbering.specs.declared.parts.Tally.{Tally}
-use Rattle.numbering.specs.declared.parts.Tally.TheVariants.{Keys, Full}
+use Rattle.memory.proofs.Stores.{Storing, store_start, front_turn, store_end, sets_front}
+use Rattle.std.proofs.Common.{Option, Some, None}
 use Rattle.numbering.specs.Table.{keys, Table, Met, MetAll}
 use Rattle.numbering.specs.Parts.{Numbered, Tallied}
 use Rattle.numbering.specs.Count.{CountOf}
@@ -50,6 +50,30 @@ entry_is k i xs l =
 pub entry_length : (k i : ℕ) (xs : List ℕ) → i < length xs / k → length (take (k * i + k - k * i) (drop (k * i) xs)) ≡ k
 entry_length k i xs l =
     length-take-le (k * i + k - k * i) (drop (k * i) xs) (omega (arith, length-drop (k * i) xs, entry_end k i xs l)) ∙ omega arith
+
+-- cell x is lent, and `more` is left, of a table whose first i cells were lent before
+module _ (k i : ℕ) (xs rest : List ℕ) (some : 0 < k) (left : rest ≡ drop (k * i) xs) where
+  module _ (x more : List ℕ) (lent : rest ≡ x ++ more) (whole : length x ≡ k) where
+    pub chunk_listed : i < length xs / k
+    chunk_listed =
+        le-div (suc i) (length xs) k some (omega (arith, ap length left, length-drop (k * i) xs, ap length lent, length-append x more, whole, some))
+
+    pub chunk_is : x ≡ get_or (cut k xs) i []
+    chunk_is =
+        let e : x ≡ take k rest = sym (ap (take k) lent ∙ take_at x more k whole) in
+        e ∙ ap (take k) left ∙ sym (cut_entry k i xs [] chunk_listed)
+
+    pub chunk_left : more ≡ drop (k * (i + 1)) xs
+    chunk_left =
+        let e : more ≡ drop k rest = sym (ap (drop k) lent ∙ drop_at x more k whole) in
+        let m : k * i + k ≡ k * (i + 1) = omega arith in
+        e ∙ ap (drop k) left ∙ drop-drop k (k * i) xs ∙ ap (λ (n : ℕ). drop n xs) m
+
+  -- no whole cell is left
+  pub chunk_end : length rest < k → length xs / k ≤ i
+  chunk_end l =
+      let h : length xs < suc i * k = omega (arith, ap length left, length-drop (k * i) xs) in
+      omega (arith, (div-lt_iff_lt-mul {k = k} {x = length xs} {y = suc i} some).1 h)
 
 -- ---- a list, element after element
 
@@ -93,27 +117,27 @@ met_one m = record { table = m.table; keys_are = m.keys_are }
 -- ---- how many keys were met
 
 -- more keys, met behind those that an empty table has met
-pub counted : {c : ℕ} {w w₁ : List ℕ} {room n : ℕ} {before : List Key} → MetAll c w w₁ room 0 before n → (w₂ : List ℕ) (ks : List Key) (r : Tally) → Tallied c w₁ w₂ room n ks r → CountOf (before ++ ks) r
+pub counted : {c : ℕ} {w w₁ : List ℕ} {room n : ℕ} {before : List Key} → MetAll c w w₁ room 0 before n → (w₂ : List ℕ) (ks : List Key) (r : Option ℕ) → Tallied c w₁ w₂ room n ks r → CountOf (before ++ ks) r
 unfolding keys up_from distinct
-counted {c} {w} {w₁} {room} {n} {before} a w₂ ks (Keys count) m =
+counted {c} {w} {w₁} {room} {n} {before} a w₂ ks (Some count) m =
     sym (length_keys c w₂ room count) ∙ ap length (met_append a m).keys_are
-counted a w₂ ks Full m = tt
+counted a w₂ ks None m = tt
 
--- ---- a loop over the keys ks that stores their places, counted from `base`, from `to` on: after j turns
+-- ---- a loop over the keys ks that stores their places, counted from `base`, at the front of a list: after j turns
 
 -- the number of a key, whatever is met later
 abbrev number_of : ℕ → List ℕ → ℕ → ℕ → List Key → ℕ → List Key → Key → ℕ
 number_of c w room n ks base later k = base + index_of k (meet_all (keys c w room n) (ks ++ later))
 
-pub record Progress (c : ℕ) (w w₁ : List ℕ) (room n : ℕ) (ks : List Key) (base to : ℕ) (old new : List ℕ) (count j : ℕ) : Type 0 where
+pub record Progress (c : ℕ) (w w₁ : List ℕ) (room n : ℕ) (ks : List Key) (base : ℕ) (old new : List ℕ) (count j : ℕ) : Type 0 where
   pub below : j ≤ length ks
   pub met : MetAll c w w₁ room n (take j ks) count
-  pub stored : (later : List Key) → Storing to (map (number_of c w room n ks base later) ks) old new j
+  pub stored : (later : List Key) → Storing 0 (map (number_of c w room n ks base later) ks) old new j
 
-pub progress_start : {c : ℕ} {w : List ℕ} {room n : ℕ} (ks : List Key) (base to : ℕ) (old : List ℕ) → Table c w room n → Progress c w w room n ks base to old old n 0
-progress_start ks base to old t = record { below = omega arith; met = met_none t; stored = λ later. store_start to _ old }
+pub progress_start : {c : ℕ} {w : List ℕ} {room n : ℕ} (ks : List Key) (base : ℕ) (old : List ℕ) → Table c w room n → Progress c w w room n ks base old old n 0
+progress_start ks base old t = record { below = omega arith; met = met_none t; stored = λ later. store_start 0 _ old }
 
-module _ {c : ℕ} {w w₁ : List ℕ} {room n : ℕ} {ks : List Key} {base to : ℕ} {old new : List ℕ} {count j : ℕ} (p : Progress c w w₁ room n ks base to old new count j) where
+module _ {c : ℕ} {w w₁ : List ℕ} {room n : ℕ} {ks : List Key} {base : ℕ} {old new : List ℕ} {count j : ℕ} (p : Progress c w w₁ room n ks base old new count j) where
   module _ {w₂ : List ℕ} {k : Key} {number more : ℕ} (m : Met c w₁ w₂ room count k number more) (e : k ≡ get_or ks j []) (l : j < length ks) where
     next_met : MetAll c w w₂ room n (take (suc j) ks) more
     next_met = rw (take-suc ks j [] l, ← e) (met_append p.met (met_one m))
@@ -130,11 +154,11 @@ module _ {c : ℕ} {w w₁ : List ℕ} {room n : ℕ} {ks : List Key} {base to :
         ∙ ap (number_of c w room n ks base later) e
         ∙ sym (get_or_map (number_of c w room n ks base later) ks j [] 0 l)
 
-    pub progress_turn : Progress c w w₂ room n ks base to old (set new (to + j) (base + number)) more (j + 1)
+    pub progress_turn : Progress c w w₂ room n ks base old (set new j (base + number)) more (j + 1)
     progress_turn = record {
       below = omega arith;
       met = rw (add-one j) next_met;
-      stored = λ later. store_turn 0 (number_is later) (p.stored later) (omega (arith, length-map ks (number_of c w room n ks base later)));
+      stored = λ later. front_turn 0 (number_is later) (p.stored later) (omega (arith, length-map ks (number_of c w room n ks base later)));
     }
 
   pub progress_full : {k : Key} → k ≡ get_or ks j [] → j < length ks → room < length (meet (keys c w₁ room count) k) → room < length (meet_all (keys c w room n) ks)
@@ -146,8 +170,10 @@ module _ {c : ℕ} {w w₁ : List ℕ} {room n : ℕ} {ks : List Key} {base to :
       ∙ take-append-drop (suc j) ks in
       rw s at (full_later p.met (k ∷ []) (drop (suc j) ks) h)
 
-  pub progress_end : length ks ≤ j → Numbered c w w₁ room n ks base to old new count
-  progress_end l = record {
+  pub progress_end : length ks ≤ j → length ks ≤ length old → Numbered c w w₁ room n ks base old new count
+  progress_end l fits = record {
     met = rw (take_all j ks l) at p.met;
-    numbers_are = λ later. store_end (p.stored later) (omega (arith, length-map ks (number_of c w room n ks base later)));
+    numbers_are = λ later.
+        let m = length-map ks (number_of c w room n ks base later) in
+        store_end (p.stored later) (omega arith) ∙ sets_front old (map (number_of c w room n ks base later) ks) (omega arith);
   }

@@ -1,15 +1,16 @@
 -- The places of the parts' corners: as many as a part has corners, each below the cell's count. Assumes nothing.
 use mathlib.Core.Path.{◌≡◌, sym, ap, ◌∙◌}
-use mathlib.Core.List.{List, [], map}
-use Prim.Native.Nat.{ℕ, ◌*◌, ◌/◌, ◌%◌, ◌≤◌, ◌<◌}
-use native.Mathlib.Nat.{one-le-pow, mul-div-le, mul-div_cancel_left, mul-le-mul_left}
+use mathlib.Core.Logic.{◌⊎◌, inl, inr}
+use mathlib.Core.List.{List, [], ◌∷◌, map}
+use Prim.Native.Nat.{ℕ, zero, suc, ◌*◌, ◌/◌, ◌%◌, ◌≤◌, ◌<◌}
+use native.Mathlib.Nat.{zero-add, not-suc-le-zero, one-le-pow, mul-div-le, mul-div_cancel_left, mul-le-mul_left}
 use native.Mathlib.Omega.{arith}
-use lib.ListN.{length, get_or, length-map}
+use lib.ListN.{length, get_or, take, length-map}
 use Rattle.rules.specs.Lists.{concat, concat_map, up_from, cut}
-use Rattle.rules.specs.Mesh.{singles, whole, by_dimension, places, place_of}
+use Rattle.rules.specs.Mesh.{Kind, hex, quad, segment, point, corners, singles, whole, by_dimension, places, place_of}
 use Rattle.rules.specs.Split.{key_at}
 use Rattle.lists.specs.Membership.{In}
-use Rattle.lists.proofs.Membership.{get_or_in, concat_map_same}
+use Rattle.lists.proofs.Membership.{get_or_in, get_or_up_from, concat_map_same}
 use Rattle.lists.proofs.Once.{length_concat_map}
 use Rattle.lists.proofs.Tables.{length_cut, length_concat, cut_concat}
 use Rattle.lists.proofs.Decide.{computed, dec_both, dec_each, dec_number, dec_below}
@@ -128,6 +129,14 @@ pub length_listed : (parts : Parts) → length (places_listed parts) ≡ part_co
 unfolding places_listed
 length_listed parts = length_concat (part_corners parts) (places_of parts) (part_rows_lem parts)
 
+-- as many as are listed, in the numbers that the code has
+pub list_size : (parts : Parts) (c n : ℕ) → c ≡ part_corners parts → n ≡ length (places_of parts) → c * n ≡ length (places_listed parts)
+list_size parts c n p q = rw (p, q) (sym (length_listed parts))
+
+-- and what is lent of an array that has the list at its front
+pub list_lent : (parts : Parts) (c n : ℕ) (array : List ℕ) → c ≡ part_corners parts → n ≡ length (places_of parts) → take (length (places_listed parts)) array ≡ places_listed parts → take (c * n) array ≡ places_listed parts
+list_lent parts c n array p q e = rw (list_size parts c n p q) e
+
 pub count_listed : (parts : Parts) → length (places_of parts) ≡ length (places_listed parts) / part_corners parts
 count_listed parts =
     sym (ap (λ (n : ℕ). n / part_corners parts) (length_listed parts) ∙ mul-div_cancel_left (length (places_of parts)) (some_part parts))
@@ -167,3 +176,36 @@ pub table_listed : (parts : Parts) (cells : List ℕ) → concat_map (listed_key
 unfolding table_keys
 table_listed parts cells =
     concat_map_same (listed_keys (part_corners parts) (places_listed parts)) (part_keys parts) (cut (cell_corners parts) cells) (λ cell _. cell_listed parts cell)
+
+-- the same, where c is how many corners a part has
+module _ (parts : Parts) (c : ℕ) (p : c ≡ part_corners parts) where
+  pub sized_count : length (places_listed parts) / c ≡ length (places_of parts)
+  sized_count = rw p (sym (count_listed parts))
+
+  pub sized_keys : (cell : List ℕ) → listed_keys c (places_listed parts) cell ≡ part_keys parts cell
+  sized_keys cell = rw p (cell_listed parts cell)
+
+-- ---- a cell by itself
+
+whole_place : (κ : Kind) (part corner : ℕ) → part < 1 → corner < corners κ → corner ≡ place_of (whole κ ∷ []) part corner
+unfolding whole
+whole_place κ zero corner l u = sym (get_or_up_from 0 (corners κ) corner 0 u ∙ zero-add corner)
+whole_place κ (suc part) corner l u = absurd (omega arith)
+
+-- its corners in order
+pub itself : (p : Parts) (part corner : ℕ) → part < length (places_of p) → corner < part_corners p → (p ≡ Hexes) ⊎ ((p ≡ Quads) ⊎ ((p ≡ Segments) ⊎ ((p ≡ SegmentFaces) ⊎ (p ≡ Points)))) → corner ≡ place_of (places_of p) part corner
+unfolding places by_dimension singles whole up_from
+itself p part corner l u h =
+    elim h [
+      | inl e ↦ rw e (whole_place hex part corner (rw e at l) (rw e at u))
+      | inr h₁ ↦ elim h₁ [
+        | inl e ↦ rw e (whole_place quad part corner (rw e at l) (rw e at u))
+        | inr h₂ ↦ elim h₂ [
+          | inl e ↦ rw e (whole_place segment part corner (rw e at l) (rw e at u))
+          | inr h₃ ↦ elim h₃ [
+            | inl e ↦ absurd (not-suc-le-zero (rw e at l))
+            | inr e ↦ rw e (whole_place point part corner (rw e at l) (rw e at u))
+          ]
+        ]
+      ]
+    ]

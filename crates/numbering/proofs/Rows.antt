@@ -1,20 +1,20 @@
--- Rows of one length, listed one behind the other: what stands where, and a loop that lists them in an array. Assumes nothing.
-use mathlib.Core.Path.{◌≡◌, refl, sym, ap, ◌∙◌}
-use mathlib.Core.List.{List, []}
-use Prim.Native.Nat.{ℕ, ◌+◌, ◌*◌, ◌/◌, ◌%◌, ◌-◌, ◌≤◌, ◌<◌}
+-- Rows of one length, listed one behind the other: what stands where, and what is read at their places. Assumes nothing.
+use mathlib.Core.Path.{◌≡◌, sym, ap, ◌∙◌}
+use mathlib.Core.List.{List, [], ◌∷◌, ◌++◌, map-append}
+use Prim.Native.Nat.{ℕ, ◌+◌, ◌*◌, ◌/◌, ◌%◌, ◌-◌, ◌<◌}
 use native.Mathlib.Nat.{mod-lt, div-add-mod, div-lt_iff_lt-mul, mul-div_cancel_left}
 use native.Mathlib.Omega.{arith}
 use lib.ListN.{length, get_or, take, drop, length-map}
-use lib.Seq.{take_at, get_or-take, get_or-drop}
-use Rattle.rules.specs.Lists.{concat, cut, overwritten}
+use native.Mathlib.Numerals.{add-one}
+use lib.Seq.{take-suc}
+use Rattle.rules.specs.Lists.{concat, cut}
 use Rattle.rules.specs.Mesh.{place_of}
 use Rattle.rules.specs.Split.{corners_at, key_at}
 use Rattle.lists.specs.Membership.{In}
 use Rattle.lists.proofs.Membership.{get_or_map}
 use Rattle.lists.proofs.Tables.{length_cut, length_concat, cut_concat, cut_at}
-use Rattle.memory.proofs.Stores.{Storing, store_end, sets_front}
-use Rattle.numbering.specs.Parts.{Within, listed_keys}
-use Rattle.numbering.proofs.Passes.{entry_end, entry_is, entry_length}
+use Rattle.numbering.specs.Parts.{listed_keys}
+use Rattle.numbering.proofs.Passes.{entry_is}
 
 module _ (c : ℕ) (rows : List (List ℕ)) (some : 0 < c) (each : (row : List ℕ) → In row rows → length row ≡ c) where
   -- place i of the list is place i % c of row i / c
@@ -30,22 +30,11 @@ module _ (c : ℕ) (rows : List (List ℕ)) (some : 0 < c) (each : (row : List �
       ∙ cut_at c (i / c) (i % c) (concat rows) [] 0 (omega (arith, r.0, n)) r.1
       ∙ ap (λ (k : ℕ). get_or (concat rows) k 0) (div-add-mod i c)
 
--- the list stands at the front of the array
-pub at_front : {s d w : List ℕ} {i : ℕ} → Storing 0 s d w i → length s ≤ i → length s ≤ length d → take (length s) w ≡ s
-unfolding overwritten
-at_front {s} {d} p l h = ap (take (length s)) (store_end p l ∙ sets_front d s h) ∙ take_at s (drop (length s) d) (length s) refl
-
 -- ---- a row that is lent: c places from c * j on
 
 module _ (c j : ℕ) (places : List ℕ) (l : j < length places / c) where
   abbrev row : List ℕ
   row = take (c * j + c - c * j) (drop (c * j) places)
-
-  pub row_within : (size : ℕ) → Within size places → Within size row
-  row_within size h i u =
-      let n = entry_length c j places l in
-      rw (get_or-take (c * j + c - c * j) (drop (c * j) places) i 0 (omega (arith, n)), get_or-drop (c * j) places i 0)
-      (h (c * j + i) (omega (arith, n, entry_end c j places l)))
 
   pub row_key : (cell : List ℕ) → key_at cell row ≡ get_or (listed_keys c places cell) j []
   unfolding listed_keys
@@ -61,3 +50,10 @@ length_listed_keys c places cell = length-map (cut c places) (key_at cell) ∙ l
 pub length_read : (from places : List ℕ) → length (corners_at from places) ≡ length places
 unfolding corners_at
 length_read from places = length-map places (λ (q : ℕ). get_or from q 0)
+
+-- one more number is read
+pub read_more : (from places : List ℕ) (i : ℕ) → i < length places → corners_at from (take i places) ++ (get_or from (get_or places i 0) 0 ∷ []) ≡ corners_at from (take (i + 1) places)
+unfolding corners_at
+read_more from places i l =
+    let f : ℕ → ℕ = λ q. get_or from q 0 in
+    sym (rw (add-one i, take-suc places i 0 l) (map-append f (take i places) (get_or places i 0 ∷ [])))

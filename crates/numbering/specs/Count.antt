@@ -1,15 +1,13 @@
 -- Words of inner contracts: what counting distinct keys answers.
-use Rattle.std.specs.Prelude.{◌≡◌, List, ◌++◌, ℕ, length}
+use Rattle.std.specs.Prelude.{◌≡◌, List, ◌++◌, ℕ, length, Option, Some, None}
 use Rattle.rules.specs.Lists.{Key, distinct}
 use Rattle.numbering.specs.declared.parts.Parts.TheVariants.{HexEdges, HexFaces, QuadEdges, Quads, Segments}
-use Rattle.numbering.specs.declared.parts.Tally.{Tally}
-use Rattle.numbering.specs.declared.parts.Tally.TheVariants.{Keys, Full}
 use Rattle.numbering.specs.Parts.{table_keys}
 
 -- a count is that of the distinct keys; that there is no room for them says nothing
-abbrev pub CountOf : List Key → Tally → Type 0
-CountOf ks (Keys n) = n ≡ length (distinct ks)
-CountOf ks Full = Unit {0}
+abbrev pub CountOf : List Key → Option ℕ → Type 0
+CountOf ks (Some n) = n ≡ length (distinct ks)
+CountOf ks None = Unit {0}
 
 -- the keys of the edges and of the faces in the order met (rule 2.2 of docs/SPECIFICATION.md)
 unfoldable pub edge_keys : List ℕ → List ℕ → List ℕ → List Key

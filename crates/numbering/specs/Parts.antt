@@ -1,13 +1,10 @@
 -- Words of inner contracts: the parts of cells that are numbered, and what numbering them answers.
-use Rattle.std.specs.Prelude.{◌≡◌, List, ◌++◌, map, ℕ, ◌+◌, ◌^◌, ◌<◌, length, get_or}
-use Rattle.std.proofs.lemmas.List.Edits.{sets}
-use Rattle.rules.specs.Lists.{concat, concat_map, cut, Key, index_of, meet_all}
+use Rattle.std.specs.Prelude.{◌≡◌, List, ◌++◌, map, ℕ, ◌+◌, ◌^◌, ◌<◌, length, get_or, Option, Some, None}
+use Rattle.rules.specs.Lists.{concat, concat_map, cut, overwritten, Key, index_of, meet_all}
 use Rattle.rules.specs.Mesh.{Kind, hex, quad, segment, point, corners, places}
 use Rattle.rules.specs.Split.{key_at}
 use Rattle.numbering.specs.declared.parts.Parts.{Parts}
 use Rattle.numbering.specs.declared.parts.Parts.TheVariants.{HexEdges, HexFaces, Hexes, QuadEdges, Quads, Segments, SegmentFaces, Points}
-use Rattle.numbering.specs.declared.parts.Tally.{Tally}
-use Rattle.numbering.specs.declared.parts.Tally.TheVariants.{Keys, Full}
 use Rattle.numbering.specs.Table.{keys, MetAll}
 
 -- the kind of cells that have these parts, and the parts' dimension
@@ -64,17 +61,17 @@ listed_keys c listed cell = map (key_at cell) (cut c listed)
 
 -- ---- answers
 
--- The keys ks were met, and the place of each, counted from `base`, stands in a list from `to` on. Places stay, whatever is met later.
-pub record Numbered (c : ℕ) (w w' : List ℕ) (room n : ℕ) (ks : List Key) (base to : ℕ) (old new : List ℕ) (count : ℕ) : Type 0 where
+-- The keys ks were met, and the place of each, counted from `base`, was stored at the front of a list. Places stay, whatever is met later.
+pub record Numbered (c : ℕ) (w w' : List ℕ) (room n : ℕ) (ks : List Key) (base : ℕ) (old new : List ℕ) (count : ℕ) : Type 0 where
   pub met : MetAll c w w' room n ks count
-  pub numbers_are : (later : List Key) → new ≡ sets old to (map (λ (k : Key). base + index_of k (meet_all (keys c w room n) (ks ++ later))) ks)
+  pub numbers_are : (later : List Key) → new ≡ overwritten old (map (λ (k : Key). base + index_of k (meet_all (keys c w room n) (ks ++ later))) ks)
 
 -- the keys were numbered, or there was no room for them all
-abbrev pub Numbering : ℕ → List ℕ → List ℕ → ℕ → ℕ → List Key → ℕ → ℕ → List ℕ → List ℕ → Tally → Type 0
-Numbering c w w' room n ks base to old new (Keys count) = Numbered c w w' room n ks base to old new count
-Numbering c w w' room n ks base to old new Full = room < length (meet_all (keys c w room n) ks)
+abbrev pub Numbering : ℕ → List ℕ → List ℕ → ℕ → ℕ → List Key → ℕ → List ℕ → List ℕ → Option ℕ → Type 0
+Numbering c w w' room n ks base old new (Some count) = Numbered c w w' room n ks base old new count
+Numbering c w w' room n ks base old new None = room < length (meet_all (keys c w room n) ks)
 
 -- the keys were met, or there was no room for them all
-abbrev pub Tallied : ℕ → List ℕ → List ℕ → ℕ → ℕ → List Key → Tally → Type 0
-Tallied c w w' room n ks (Keys count) = MetAll c w w' room n ks count
-Tallied c w w' room n ks Full = room < length (meet_all (keys c w room n) ks)
+abbrev pub Tallied : ℕ → List ℕ → List ℕ → ℕ → ℕ → List Key → Option ℕ → Type 0
+Tallied c w w' room n ks (Some count) = MetAll c w w' room n ks count
+Tallied c w w' room n ks None = room < length (meet_all (keys c w room n) ks)

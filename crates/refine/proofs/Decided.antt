@@ -1,8 +1,8 @@
 -- Check 11 after the others: what acceptance tells of lent memory, and what the answer and the output tables then are. Assumes nothing.
 use mathlib.Core.Path.{◌≡◌, refl, sym, ap, subst, ◌∙◌}
-use mathlib.Core.Bool.{Bool, false, ◌||◌}
+use mathlib.Core.Bool.{Bool, true, false, ◌||◌}
 use mathlib.Core.List.{List}
-use Prim.Native.Nat.{ℕ, zero, suc, ◌*◌, ◌/◌, ◌≤◌, ◌<◌}
+use Prim.Native.Nat.{ℕ, ◌*◌, ◌/◌, ◌≤◌, ◌<◌}
 use native.Mathlib.Nat.{div-lt_iff_lt-mul, mul_comm}
 use native.Mathlib.Omega.{arith}
 use borrow.Author.Tests.{ltb-true, ltb-false}
@@ -10,19 +10,21 @@ use lib.Dec.{ltb}
 use lib.ListN.{length}
 use Rattle.rules.specs.declared.Counts.{Counts}
 use Rattle.rules.specs.declared.Sizes.{Sizes}
-use Rattle.rules.specs.declared.CountsAnswer.{CountsAnswer}
+use Rattle.rules.specs.declared.Refusal.{Refusal}
 use Rattle.rules.specs.Mesh.{Mesh, topology}
 use Rattle.rules.specs.Averaging.{refined}
 use Rattle.rules.specs.Counts.{sizes, sizes_after, counts_in, counts_of, finished_counts, fewer}
+use Rattle.rules.specs.Answers.{number_of, counts_answer_of}
 use Rattle.rules.specs.Refusals.{check}
-use Rattle.rules.specs.EntryPoints.{Lent as Lengths, counts_answer, result_tables, lent_by, short_for_refining, refining_refusal, refining_answer, refining_output}
+use Rattle.rules.proofs.Named.{number_is_suc, refused_counts}
+use Rattle.std.specs.Prelude.{Ok, Err}
+use Rattle.rules.specs.EntryPoints.{Lent as Lengths, counts_answer, round_checks, result_tables, lent_by, short_for_refining, refining_refusal, refining_answer, refining_output}
 use Rattle.rules.specs.Viewer.{and_then}
 use Rattle.lists.proofs.Tests.{or_neither, false_together, is_false}
-use Rattle.soundness.specs.Growth.{InRange}
-use Rattle.plan.specs.declared.answer.Plan.{Plan}
-use Rattle.plan.specs.Planned.{Planned}
-use Rattle.plan.proofs.Refusals.{check_passes, both_pass, rounds_then, Passed}
-use Rattle.plan.proofs.Plans.{same_answer, plan_passed, plan_counts, plan_in_range}
+use Rattle.plan.specs.declared.Growth.{Growth}
+use Rattle.plan.specs.Planned.{Sized}
+use Rattle.plan.proofs.Refusals.{first_refusal, rounds_then, Passed}
+use Rattle.plan.proofs.Plans.{plan_passed, plan_counts}
 use Rattle.rounds.specs.Front.{Room}
 use Rattle.rounds.specs.Ready.{ReadyFor}
 use Rattle.refine.specs.Lengths.{lengths}
@@ -92,63 +94,63 @@ module _ (m : Mesh) (rounds : ℕ) (out work : Mesh) (words longs : List ℕ) (p
 pub last_check : {n : ℕ} {b : Bool} (v : Bool) → n ≡ 0 → b ≡ v → check v 11 0 ≡ and_then n (check b 11 0)
 last_check v e f = rw (e, f)
 
-same_later : (n a b : ℕ) → (n ≡ 0 → a ≡ b) → and_then n a ≡ and_then n b
-same_later zero a b h = h refl
-same_later (suc n) a b h = refl
-
-kept_tables : (n : ℕ) (old new : Mesh) → (n ≡ 0 → ⊥) → old ≡ result_tables n old new
-unfolding result_tables
-kept_tables zero old new h = absurd (h refl)
-kept_tables (suc n) old new h = refl
-
--- the refusal n of a mesh and of lent memory: by what checks 1 to 10 found, and by check 11
-pub record Decision (m : Mesh) (rounds : ℕ) (out work : Mesh) (words longs : List ℕ) (p : Plan) (n : ℕ) : Type 0 where
-  pub planned : Planned m rounds p
-  pub decided : n ≡ and_then p.refusal (check (short_for_refining (lent_by out work words longs) (counts_in p.finished)) 11 0)
-
-module _ {m : Mesh} {rounds : ℕ} {out work : Mesh} {words longs : List ℕ} {p : Plan} {n : ℕ} (d : Decision m rounds out work words longs p n) where
+module _ (m : Mesh) (rounds : ℕ) (out work : Mesh) (words longs : List ℕ) where
   -- check 11 of counts
   short_check : Counts → ℕ
   short_check c = check (short_for_refining (lent_by out work words longs) c) 11 0
 
-  refusal_is : n ≡ refining_refusal m rounds (lent_by out work words longs)
+  by_plan : (n : ℕ) → n ≡ round_checks m rounds 0 → refining_refusal m rounds (lent_by out work words longs) ≡ and_then n (short_check (finished_counts rounds (topology m)))
   unfolding refining_refusal short_check
-  refusal_is =
+  by_plan n e =
       let later = short_check (finished_counts rounds (topology m)) in
-      d.decided
-      ∙ same_later p.refusal _ later (λ z. ap short_check (plan_counts d.planned z))
-      ∙ ap (λ (k : ℕ). and_then k later) d.planned.refusal
-      ∙ sym (rounds_then m rounds later)
+      rounds_then m rounds later ∙ ap (λ (k : ℕ). and_then k later) (sym e)
 
-  no_refusal : n ≡ 0 → p.refusal ≡ 0
-  no_refusal z = (both_pass p.refusal _ (sym d.decided ∙ z)).0
+  -- a refusal of checks 1 to 10
+  pub refused_by_plan : (r : Refusal) → number_of r ≡ round_checks m rounds 0 → number_of r ≡ refining_refusal m rounds (lent_by out work words longs)
+  refused_by_plan r e =
+      first_refusal (number_of r) _ (λ z. let s = number_is_suc r in omega (arith, s.1, z)) ∙ sym (by_plan (number_of r) e)
 
-  pub decided_answer : {r : CountsAnswer} → r ≡ counts_answer n (counts_in p.finished) → r ≡ refining_answer m rounds out work words longs
-  unfolding refining_answer
-  decided_answer e =
-      e
-      ∙ same_answer n _ _ (λ z. plan_counts d.planned (no_refusal z))
-      ∙ ap (λ (k : ℕ). counts_answer k (finished_counts rounds (topology m))) refusal_is
+  module _ {p : Growth} (d : Sized m rounds p) (b : Bool) (e : b ≡ short_for_refining (lent_by out work words longs) (counts_in p.finished)) where
+    tested : b ≡ short_for_refining (lent_by out work words longs) (finished_counts rounds (topology m))
+    tested = e ∙ ap (short_for_refining (lent_by out work words longs)) (plan_counts d)
 
-  pub decided_kept : (n ≡ 0 → ⊥) → out ≡ refining_output m rounds out work words longs
-  unfolding refining_output
-  decided_kept h = kept_tables n out (refined rounds m) h ∙ ap (λ (k : ℕ). result_tables k out (refined rounds m)) refusal_is
+    -- check 11 is the refusal, or there is none
+    decided : refining_refusal m rounds (lent_by out work words longs) ≡ check b 11 0
+    unfolding short_check
+    decided = by_plan 0 (sym d.passes) ∙ ap (λ (v : Bool). check v 11 0) (sym tested)
 
-  pub decided_in_range : n ≡ 0 → InRange (counts_in p.finished)
-  decided_in_range z = plan_in_range d.planned (no_refusal z)
+    pub refused_as_short : b ≡ true → 11 ≡ refining_refusal m rounds (lent_by out work words longs)
+    refused_as_short h = last_check {n = 0} true refl h ∙ sym decided
 
-  -- check 11 fails, of the finished counts
-  long_enough : n ≡ 0 → short_for_refining (lent_by out work words longs) (finished_counts rounds (topology m)) ≡ false
-  long_enough z =
-      ap (short_for_refining (lent_by out work words longs)) (sym (plan_counts d.planned (no_refusal z)))
-      ∙ (check_passes _ 10 0 (both_pass p.refusal _ (sym d.decided ∙ z)).1).0
+    pub refused_not : b ≡ false → 0 ≡ refining_refusal m rounds (lent_by out work words longs)
+    refused_not h = last_check {n = 0} false refl h ∙ sym decided
 
-  pub decided_ready : n ≡ 0 → ReadyFor rounds m p.start out work words longs
-  decided_ready z = lent_ready m rounds out work words longs (plan_passed d.planned (no_refusal z)) (long_enough z) p.start (d.planned.start (no_refusal z))
+    pub decided_ready : b ≡ false → ReadyFor rounds m p.start out work words longs
+    decided_ready h = lent_ready m rounds out work words longs (plan_passed d) (sym tested ∙ h) p.start d.start
 
-  pub decided_written : n ≡ 0 → {o : Mesh} → o ≡ result_tables 0 out (refined rounds m) → o ≡ refining_output m rounds out work words longs
-  unfolding refining_output
-  decided_written z e = e ∙ ap (λ (k : ℕ). result_tables k out (refined rounds m)) (sym z ∙ refusal_is)
+    pub decided_answer : b ≡ false → (c : Counts) → c ≡ counts_in p.finished → counts_answer_of (Ok c) ≡ refining_answer m rounds out work words longs
+    unfolding refining_answer
+    decided_answer h c f =
+        ap (counts_answer 0) (f ∙ plan_counts d)
+        ∙ ap (λ (k : ℕ). counts_answer k (finished_counts rounds (topology m))) (refused_not h)
+
+    pub decided_written : b ≡ false → {o : Mesh} → o ≡ result_tables 0 out (refined rounds m) → o ≡ refining_output m rounds out work words longs
+    unfolding refining_output
+    decided_written h f = f ∙ ap (λ (k : ℕ). result_tables k out (refined rounds m)) (refused_not h)
+
+  -- what is answered and written where the call is refused
+  module _ (r : Refusal) (e : number_of r ≡ refining_refusal m rounds (lent_by out work words longs)) where
+    pub refused_answer : counts_answer_of (Err r) ≡ refining_answer m rounds out work words longs
+    unfolding refining_answer
+    refused_answer =
+        sym (refused_counts r (finished_counts rounds (topology m)))
+        ∙ ap (λ (k : ℕ). counts_answer k (finished_counts rounds (topology m))) e
+
+    pub refused_output : out ≡ refining_output m rounds out work words longs
+    unfolding refining_output result_tables
+    refused_output =
+        let s = number_is_suc r in
+        ap (λ (k : ℕ). result_tables k out (refined rounds m)) (sym s.1 ∙ e)
 
 -- working numbers count by their length
 pub ready_same : {n : ℕ} {m : Mesh} {s : Sizes} {out work : Mesh} {longs : List ℕ} (words words' : List ℕ) → length words' ≡ length words → ReadyFor n m s out work words longs → ReadyFor n m s out work words' longs
@@ -161,3 +163,7 @@ ready_same words words' e r = record {
   enough_words = rw e r.enough_words;
   enough_longs = r.enough_longs;
 }
+
+-- check 11 of what is lent, as the code counts it
+pub short_lent : (out work : Mesh) (words longs : List ℕ) (o w f : Sizes) {b : Bool} → counts_in o ≡ counts_of out → counts_in w ≡ counts_of work → b ≡ short_for_refining (lengths (record { output = o; working = w; words = length words; longs = length longs })) (counts_in f) → b ≡ short_for_refining (lent_by out work words longs) (counts_in f)
+short_lent out work words longs o w f p q e = e ∙ ap (λ (l : Lengths). short_for_refining l (counts_in f)) (lent_is out work words longs o w p q)

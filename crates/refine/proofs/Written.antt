@@ -16,6 +16,9 @@ use Rattle.rules.specs.EntryPoints.{counts_answer, round_checks, cleared, cleare
 use Rattle.soundness.specs.Accepted.{Accepted}
 use Rattle.soundness.proofs.Rounds.{refined_sizes, refined_entire}
 use Rattle.rules.specs.Accuracy.{Property3}
+use Rattle.rules.specs.Answers.{counts_answer_of}
+use Rattle.rules.specs.declared.Refusal.{Refusal}
+use Rattle.std.specs.Prelude.{Result, Ok, Err, IfOk, OnOk}
 use Rattle.accuracy.proofs.Accepted.{accepted_property_3, range_kept_lem}
 use Rattle.plan.proofs.Refusals.{both_pass, rounds_then, rounds_pass}
 use Rattle.tables.proofs.Five.{same_mesh}
@@ -28,32 +31,42 @@ written_front m rounds out a =
     begins (3 * (sizes_after rounds (sizes (topology m))).vertices) out (refined rounds m).vertices
     ((filled (refined rounds m) (refined_entire rounds m a.entire)).vertices ∙ ap (λ (r : Sizes). 3 * r.vertices) (refined_sizes rounds m a.sound))
 
--- an answer has the number of its refusal
-refusal_of : (n : ℕ) (c : Counts) → (counts_answer n c).refusal ≡ n
-refusal_of zero c = refl
-refusal_of (suc n) c = refl
+-- where the call is not refused
+module _ (m : Mesh) (rounds : ℕ) (out work : Mesh) (words longs : List ℕ) (c : Counts) (e : counts_answer_of (Ok c) ≡ refining_answer m rounds out work words longs) where
+  -- the refusal in an answer
+  refusal_in : (n : ℕ) (d : Counts) → (counts_answer n d).refusal ≡ n
+  refusal_in zero d = refl
+  refusal_in (suc n) d = refl
 
--- where the answer has no refusal
-module _ (m : Mesh) (rounds : ℕ) (out work : Mesh) (words longs : List ℕ) (r : CountsAnswer) (e : r ≡ refining_answer m rounds out work words longs) where
-  answered : r.refusal ≡ 0 → refining_refusal m rounds (lent_by out work words longs) ≡ 0
+  answered : refining_refusal m rounds (lent_by out work words longs) ≡ 0
   unfolding refining_answer
-  answered z = sym (refusal_of _ _) ∙ sym (ap (λ (x : CountsAnswer). x.refusal) e) ∙ z
+  answered = sym (refusal_in _ _) ∙ sym (ap (λ (x : CountsAnswer). x.refusal) e)
 
-  accepted : r.refusal ≡ 0 → Accepted m
+  accepted : Accepted m
   unfolding refining_refusal
-  accepted z = (rounds_pass m rounds (both_pass (round_checks m rounds 0) _ (sym (rounds_then m rounds _) ∙ answered z)).0).accepted
+  accepted = (rounds_pass m rounds (both_pass (round_checks m rounds 0) _ (sym (rounds_then m rounds _) ∙ answered)).0).accepted
 
-  pub output_accurate : (o : Mesh) → o ≡ refining_output m rounds out work words longs → r.refusal ≡ 0 → Property3 rounds m (take (3 * r.counts.vertices) o.vertices)
+  pub output_accurate : (o : Mesh) → o ≡ refining_output m rounds out work words longs → Property3 rounds m (take (3 * c.vertices) o.vertices)
   unfolding refining_answer refining_output result_tables
-  output_accurate o f z =
-      let v : r.counts.vertices ≡ (finished_counts rounds (topology m)).vertices = ap (λ (x : CountsAnswer). x.counts.vertices) (e ∙ ap (λ (k : ℕ). counts_answer k (finished_counts rounds (topology m))) (answered z)) in
-      let w : o.vertices ≡ overwritten out.vertices (refined rounds m).vertices = ap (λ (x : Mesh). x.vertices) (f ∙ ap (λ (k : ℕ). result_tables k out (refined rounds m)) (answered z)) in
-      let t : take (3 * r.counts.vertices) o.vertices ≡ (refined rounds m).vertices =
-      ap (λ (k : ℕ). take (3 * k) o.vertices) v ∙ ap (take (3 * (finished_counts rounds (topology m)).vertices)) w ∙ written_front m rounds out.vertices (accepted z) in
-      subst (λ (ws : List ℤ). Property3 rounds m ws) (sym t) (accepted_property_3 m (accepted z) rounds)
+  output_accurate o f =
+      let v : c.vertices ≡ (finished_counts rounds (topology m)).vertices = ap (λ (x : CountsAnswer). x.counts.vertices) (e ∙ ap (λ (k : ℕ). counts_answer k (finished_counts rounds (topology m))) answered) in
+      let w : o.vertices ≡ overwritten out.vertices (refined rounds m).vertices = ap (λ (x : Mesh). x.vertices) (f ∙ ap (λ (k : ℕ). result_tables k out (refined rounds m)) answered) in
+      let t : take (3 * c.vertices) o.vertices ≡ (refined rounds m).vertices =
+      ap (λ (k : ℕ). take (3 * k) o.vertices) v ∙ ap (take (3 * (finished_counts rounds (topology m)).vertices)) w ∙ written_front m rounds out.vertices accepted in
+      subst (λ (ws : List ℤ). Property3 rounds m ws) (sym t) (accepted_property_3 m accepted rounds)
 
-  pub output_in_range : r.refusal ≡ 0 → range_kept rounds m ≡ replicate (suc rounds) true
-  output_in_range z = range_kept_lem m (accepted z) rounds
+  pub output_in_range : range_kept rounds m ≡ replicate (suc rounds) true
+  output_in_range = range_kept_lem m accepted rounds
+
+-- of whatever is answered
+module _ (m : Mesh) (rounds : ℕ) (out work : Mesh) (words longs : List ℕ) where
+  pub accurate_if_ok : (r : Result Counts Refusal) → counts_answer_of r ≡ refining_answer m rounds out work words longs → (o : Mesh) → o ≡ refining_output m rounds out work words longs → IfOk r (λ (c : Counts). Property3 rounds m (take (3 * c.vertices) o.vertices))
+  accurate_if_ok (Ok c) e o f = output_accurate m rounds out work words longs c e o f
+  accurate_if_ok (Err r) e o f = tt
+
+  pub in_range_on_ok : (r : Result Counts Refusal) → counts_answer_of r ≡ refining_answer m rounds out work words longs → OnOk r (range_kept rounds m ≡ replicate (suc rounds) true)
+  in_range_on_ok (Ok c) e = output_in_range m rounds out work words longs c e
+  in_range_on_ok (Err r) e = tt
 
 -- ---- cleared memory
 

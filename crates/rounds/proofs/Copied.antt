@@ -1,9 +1,8 @@
 -- A mesh copied to the output tables is ready for the rounds, and what they leave of the copy is the mesh after the rounds. Assumes nothing.
 use mathlib.Core.Path.{◌≡◌, sym, ap, subst, ◌∙◌}
 use mathlib.Core.List.{List}
-use Prim.Native.Nat.{ℕ, ◌≤◌}
+use Prim.Native.Nat.{ℕ}
 use native.Mathlib.Omega.{arith}
-use lib.ListN.{length}
 use Rattle.rules.specs.declared.Sizes.{Sizes}
 use Rattle.rules.specs.Mesh.{Mesh, topology}
 use Rattle.rules.specs.Averaging.{refined}
@@ -12,6 +11,7 @@ use Rattle.rules.specs.EntryPoints.{result_tables}
 use Rattle.soundness.specs.Growth.{AtMost}
 use Rattle.soundness.proofs.Rounds.{refined_sizes}
 use Rattle.soundness.proofs.SplitSizes.{after_grows}
+use Rattle.tables.specs.Lent.{Fits}
 use Rattle.rounds.specs.Front.{sized_front, Room}
 use Rattle.rounds.specs.Ready.{ReadyFor}
 use Rattle.rounds.proofs.Turns.{Filled, filled, front_begins, result_twice, room_less, room_stored, now_filled}
@@ -23,11 +23,17 @@ module _ {n : ℕ} {m : Mesh} {s : Sizes} {out work : Mesh} {words longs : List 
   start_room : Room s out
   start_room = room_less s (sizes_after n s) out (after_grows n s) ready.room
 
-  pub copy_fits : (length m.vertices ≤ length out.vertices) × ((length m.hexes ≤ length out.hexes) × ((length m.quads ≤ length out.quads) × ((length m.segments ≤ length out.segments) × (length m.points ≤ length out.points))))
+  pub copy_fits : Fits m out
   copy_fits =
       let f = start_filled in
       let r = start_room in
-      (omega (arith, f.vertices, r.vertices), (omega (arith, f.hexes, r.hexes), (omega (arith, f.quads, r.quads), (omega (arith, f.segments, r.segments), omega (arith, f.points, r.points)))))
+      record {
+        vertices = omega (arith, f.vertices, r.vertices);
+        hexes = omega (arith, f.hexes, r.hexes);
+        quads = omega (arith, f.quads, r.quads);
+        segments = omega (arith, f.segments, r.segments);
+        points = omega (arith, f.points, r.points);
+      }
 
   module _ (o : Mesh) (e : o ≡ result_tables 0 out m) where
     pub copied_front : sized_front s o ≡ m

@@ -6,3 +6,7 @@ pub mod Turns
 pub mod OneRound
 -- Copied: a mesh copied to the output tables, and what the rounds leave of it.
 pub mod Copied
+-- Narrowed: sizes that fit 32 bits, and fronts by counts.
+pub mod Narrowed
+-- Lent: tables that stay the ones that were lent.
+pub mod Lent

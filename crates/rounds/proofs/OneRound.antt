@@ -57,7 +57,7 @@ module _ {m : Mesh} {s : Sizes} {out : Mesh} {words longs : List ℕ} (ready : R
       one : (n : ℕ) → n ≡ n / 1
       one n = omega arith
 
-  next_range : InRange (counts_in (next_sizes s))
+  pub next_range : InRange (counts_in (next_sizes s))
   next_range = in_range_lem (counts_in (next_sizes s)) ready.small
 
   -- the mesh after the round is small

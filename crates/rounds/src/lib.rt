@@ -4,51 +4,33 @@
 #![tactic(auto)]
 
 ghost use Rattle.std.specs.Prelude.{◌≡◌};
-ghost use Rattle.rules.specs.Mesh.{mesh};
 ghost use Rattle.rules.specs.Averaging.{refined};
 ghost use Rattle.rules.specs.EntryPoints.{result_tables};
+ghost use Rattle.tables.specs.Lent.{mesh_in, mesh_at, SameSlices};
 ghost use Rattle.rounds.specs.Ready.{ReadyFor};
 
 use crate::turn::turns;
 use rules::Sizes;
-use tables::copy;
+use tables::{LentTables, MeshTables};
 
-// The mesh at the front of tables.
-mod front;
 // One round, and some rounds in place.
 mod turn;
 
 // A mesh that passed the checks: copied to the output tables, and refined there.
 pub fn make_rounds(
-    xs: &[i32],
-    hs: &[u32],
-    qs: &[u32],
-    ss: &[u32],
-    ps: &[u32],
+    mesh: MeshTables,
     rounds: u32,
     start: Sizes,
-    ox: &mut [i32],
-    oh: &mut [u32],
-    oq: &mut [u32],
-    os: &mut [u32],
-    op: &mut [u32],
-    wx: &mut [i32],
-    wh: &mut [u32],
-    wq: &mut [u32],
-    ws: &mut [u32],
-    wp: &mut [u32],
+    output: &mut LentTables,
+    working: &mut LentTables,
     words: &mut [u32],
     longs: &mut [u64],
 )
-    requires { let m = mesh xs.now hs.now qs.now ss.now ps.now in
-        let out = mesh ox.old oh.old oq.old os.old op.old in
-        ReadyFor rounds m start out (mesh wx.old wh.old wq.old ws.old wp.old) words.old longs.old }
-    ensures { let m = mesh xs.now hs.now qs.now ss.now ps.now in
-        let old = mesh ox.old oh.old oq.old os.old op.old in
-        mesh ox.new oh.new oq.new os.new op.new ≡ result_tables 0 old (refined rounds m) }
+    requires { ReadyFor rounds (mesh_in mesh) start (mesh_at output.old) (mesh_at working.old) words.old longs.old }
+    ensures same_output { SameSlices output.old output.new }
+    ensures same_working { SameSlices working.old working.new }
+    ensures refined { mesh_at output.new ≡ result_tables 0 (mesh_at output.old) (refined rounds (mesh_in mesh.entry)) }
 {
-    copy(xs, hs, qs, ss, ps, ox, oh, oq, os, op);
-    turns(
-        rounds, start, ox, oh, oq, os, op, wx, wh, wq, ws, wp, words, longs,
-    );
+    output.copy_from(mesh);
+    turns(rounds, start, output, working, words, longs);
 }

@@ -51,7 +51,7 @@ refusals_hold = (refl, (refl, (refl, (refl, (refl, (refl, (refl, (refl, (refl, (
 
 entries_hold : Each Holds entry_rows
 unfolding any keep repeats concat entries cut overwritten concat_map up_from has insert key_of same index_of meet meet_all distinct topology mesh_of whole singles by_dimension places cell_parts first_holding smallest smallest_table corners_at key_at met distinct_parts parts fine_vertex child children split_by split floor_div floor_mod holding or_else counted rank valence eighths cell_draws mean_at means axis averaged round refined split_times rounds_of common exact_divisor exact draws_on feeding left has_remainder least_of greatest_of least greatest accurate accurate_at accuracies sizes next_sizes sizes_after counts_in counts_of finished_counts out_of_range fewer partial_entry count_out_of_range outside coordinate_out_of_range corner_out_of_range repeated_corner duplicate_cell ring mismatched mismatched_face isolated_vertex too_large table_checks mesh_checks result_tables front_of cleared_tables finished_answer short_for_refining refining_refusal refining_answer refining_output range_kept irregular irregular_count irregular_answer in_millimetres millimetres_refusal millimetres_answer number first_bits field_at table_at bits_in spelled bytes_for bytes_of packed encode digits_in binary_digits width_of to_field of_field table_fields header_fields index_width mesh_fields stored_form header_of layout stored_mesh header_cut wrong_length unknown_form wrong_width spare_bits reading_refusal reading_answer reading_output header_answer writing_refusal writing_answer writing_output stored_refining_refusal viewer_refusal viewer_answer viewer_output viewer_irregular_count decimal_in decimal signed_decimal fields listing_line refused_line mesh_line vertex_line cell_lines mesh_lines listing_refusal listing line wire bar square square8 cube sides grid dots hub span low_hub wide_cube mixed bar_bytes slope tent every_kind lent_tables work_tables long_tables full_tables many_points odd entry_rows
-entries_hold = (refl, (refl, (refl, (refl, (refl, (refl, (refl, (refl, (refl, (refl, (refl, (refl, (refl, (refl, (refl, (refl, (refl, (refl, (refl, (refl, (refl, (refl, (refl, (refl, (refl, (refl, (refl, (refl, (refl, (refl, (refl, (refl, (refl, (refl, (refl, (refl, (refl, (refl, (refl, (refl, (refl, (refl, (refl, (refl, (refl, (refl, (refl, (refl, (refl, (refl, (refl, (refl, (refl, (refl, (refl, tt)))))))))))))))))))))))))))))))))))))))))))))))))))))))
+entries_hold = (refl, (refl, (refl, (refl, (refl, (refl, (refl, (refl, (refl, (refl, (refl, (refl, (refl, (refl, (refl, (refl, (refl, (refl, (refl, (refl, (refl, (refl, (refl, (refl, (refl, (refl, (refl, (refl, (refl, (refl, (refl, (refl, (refl, (refl, (refl, (refl, (refl, (refl, (refl, (refl, (refl, (refl, (refl, (refl, (refl, (refl, (refl, (refl, (refl, (refl, (refl, (refl, (refl, (refl, (refl, (refl, (refl, (refl, (refl, (refl, (refl, (refl, tt))))))))))))))))))))))))))))))))))))))))))))))))))))))))))))))
 
 stored_hold : Each Holds stored_rows
 unfolding any keep repeats concat entries cut overwritten concat_map up_from has insert key_of same index_of meet meet_all distinct topology mesh_of whole singles by_dimension places cell_parts first_holding smallest smallest_table corners_at key_at met distinct_parts parts fine_vertex child children split_by split floor_div floor_mod holding or_else counted rank valence eighths cell_draws mean_at means axis averaged round refined split_times rounds_of common exact_divisor exact draws_on feeding left has_remainder least_of greatest_of least greatest accurate accurate_at accuracies sizes next_sizes sizes_after counts_in counts_of finished_counts out_of_range fewer partial_entry count_out_of_range outside coordinate_out_of_range corner_out_of_range repeated_corner duplicate_cell ring mismatched mismatched_face isolated_vertex too_large table_checks mesh_checks result_tables front_of cleared_tables finished_answer short_for_refining refining_refusal refining_answer refining_output range_kept irregular irregular_count irregular_answer in_millimetres millimetres_refusal millimetres_answer number first_bits field_at table_at bits_in spelled bytes_for bytes_of packed encode digits_in binary_digits width_of to_field of_field table_fields header_fields index_width mesh_fields stored_form header_of layout stored_mesh header_cut wrong_length unknown_form wrong_width spare_bits reading_refusal reading_answer reading_output header_answer writing_refusal writing_answer writing_output stored_refining_refusal viewer_refusal viewer_answer viewer_output viewer_irregular_count decimal_in decimal signed_decimal fields listing_line refused_line mesh_line vertex_line cell_lines mesh_lines listing_refusal listing line wire bar square square8 cube sides grid dots hub span low_hub wide_cube mixed bar_bytes slope tent every_kind lent_tables work_tables long_tables full_tables many_points odd stored_rows

@@ -1,8 +1,10 @@
 -- Rows of the table of samples: answers and lent memory, accepted and refused; the irregular count; the millimetre report.
-use Rattle.std.specs.Prelude.{true, false, List, [], ◌∷◌, ◌++◌, map, replicate, pos, negsuc}
+use Rattle.std.specs.Prelude.{true, false, List, [], ◌∷◌, ◌++◌, map, replicate, ℕ, Ok, Err, pos, negsuc}
 use Rattle.std.specs.Float.{fin}
 use Rattle.rules.specs.Mesh.{Mesh, mesh, topology}
+use Rattle.rules.specs.declared.Refusal.TheVariants.{PartialEntry, CountOutOfRange, CoordinateOutOfRange, CornerOutOfRange, RepeatedCorner, DuplicateCell, MismatchedFace, IsolatedVertex, TooManyRounds, ResultTooLarge, ShortBuffer, WrongFileLength, UnknownForm, WrongIndexWidth, NonzeroPadding}
 use Rattle.rules.specs.Averaging.{split_times}
+use Rattle.rules.specs.Answers.{number_of, refusal_of, counts_answer_of, count_answer_of, millimetres_answer_of}
 use Rattle.rules.specs.EntryPoints.{counts_answer, count_answer, result_buffer, result_tables, front, cleared, cleared_tables, finished_answer, lent_by, refining_answer, refining_output, irregular, irregular_answer, millimetres_refusal, millimetres_answer}
 use Rattle.rules.specs.SampleMeshes.{tally, line, wire, bar, cube, grid, hub, mixed, every_kind, lent_tables, work_tables, long_tables}
 use Rattle.rules.specs.SampleClaims.{irregulars, millimetres, numbers, lists, truths, tables, position, five, answered, counted, Row, row, fact}
@@ -12,6 +14,14 @@ entry_rows =
     -- a refusal carries its number and zeros (rule 6.3)
     fact (numbers (answered (counts_answer 0 (tally 1 2 3 4 5)) ++ answered (counts_answer 7 (tally 1 2 3 4 5))) (0 ∷ 1 ∷ 2 ∷ 3 ∷ 4 ∷ 5 ∷ 7 ∷ 0 ∷ 0 ∷ 0 ∷ 0 ∷ 0 ∷ []))
     ∷ fact (numbers (counted (count_answer 0 9) ++ counted (count_answer 7 9)) (0 ∷ 9 ∷ 7 ∷ 0 ∷ []))
+    -- each refusal has the number of its rule; 12 is retired (section 7)
+    ∷ fact (numbers (map number_of (PartialEntry ∷ CountOutOfRange ∷ CoordinateOutOfRange ∷ CornerOutOfRange ∷ RepeatedCorner ∷ DuplicateCell ∷ MismatchedFace ∷ IsolatedVertex ∷ [])) (1 ∷ 2 ∷ 3 ∷ 4 ∷ 5 ∷ 6 ∷ 7 ∷ 8 ∷ []))
+    ∷ fact (numbers (map number_of (TooManyRounds ∷ ResultTooLarge ∷ ShortBuffer ∷ WrongFileLength ∷ UnknownForm ∷ WrongIndexWidth ∷ NonzeroPadding ∷ [])) (9 ∷ 10 ∷ 11 ∷ 13 ∷ 14 ∷ 15 ∷ 16 ∷ []))
+    ∷ fact (numbers (refusal_of {A = ℕ} (Ok 5) ∷ refusal_of {A = ℕ} (Err UnknownForm) ∷ []) (0 ∷ 14 ∷ []))
+    ∷ fact (numbers (answered (counts_answer_of (Ok (tally 1 2 3 4 5))) ++ answered (counts_answer_of (Err MismatchedFace))) (0 ∷ 1 ∷ 2 ∷ 3 ∷ 4 ∷ 5 ∷ 7 ∷ 0 ∷ 0 ∷ 0 ∷ 0 ∷ 0 ∷ []))
+    ∷ fact (numbers (counted (count_answer_of (Ok 9)) ++ counted (count_answer_of (Err MismatchedFace))) (0 ∷ 9 ∷ 7 ∷ 0 ∷ []))
+    ∷ fact (position (millimetres_answer_of (Ok (record { x = fin false 3 (negsuc 0); y = fin false 0 (pos 0); z = fin true 1 (negsuc 9) }))) (record { refusal = 0; position = record { x = fin false 3 (negsuc 0); y = fin false 0 (pos 0); z = fin true 1 (negsuc 9) } }))
+    ∷ fact (position (millimetres_answer_of (Err CoordinateOutOfRange)) (record { refusal = 3; position = record { x = fin false 0 (pos 0); y = fin false 0 (pos 0); z = fin false 0 (pos 0) } }))
     -- the front of a result buffer, its unused rest, and all of it after a refusal (rules 6.4, 6.5)
     ∷ fact (lists (result_buffer 0 (7 ∷ 8 ∷ 9 ∷ []) (1 ∷ 2 ∷ []) ∷ result_buffer 3 (7 ∷ 8 ∷ 9 ∷ []) (1 ∷ 2 ∷ []) ∷ []) ((1 ∷ 2 ∷ 9 ∷ []) ∷ (7 ∷ 8 ∷ 9 ∷ []) ∷ []))
     ∷ fact (tables

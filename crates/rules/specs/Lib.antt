@@ -28,6 +28,8 @@ pub mod Averaging
 pub mod Accuracy
 -- Counts: the counts of a round, the finished counts, the ranges.
 pub mod Counts
+-- Answers: refusals by name, and the answers that results lead to.
+pub mod Answers
 -- Refusals: the conditions 1 to 10.
 pub mod Refusals
 -- EntryPoints: refining, the finished counts, the irregular count, the millimetre report: refusal, answer, lent memory.

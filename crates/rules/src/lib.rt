@@ -24,6 +24,26 @@ pub struct Sizes {
     pub points: u64,
 }
 
+// Why a call is refused, each reason under the name of its rule (section 7); number 12 is retired.
+#[derive(Clone, Copy, Debug, PartialEq, Eq)]
+pub enum Refusal {
+    PartialEntry,
+    CountOutOfRange,
+    CoordinateOutOfRange,
+    CornerOutOfRange,
+    RepeatedCorner,
+    DuplicateCell,
+    MismatchedFace,
+    IsolatedVertex,
+    TooManyRounds,
+    ResultTooLarge,
+    ShortBuffer,
+    WrongFileLength,
+    UnknownForm,
+    WrongIndexWidth,
+    NonzeroPadding,
+}
+
 // What refining and reading answer: the refusal's number, 0 for none, and the counts.
 #[repr(C)]
 #[derive(Clone, Copy)]
@@ -57,4 +77,7 @@ pub struct MillimetresAnswer {
     pub position: Millimetres,
 }
 
+// Refusals as numbers, and results as answers for C.
+mod answers;
+// The constant tables.
 pub mod tables;

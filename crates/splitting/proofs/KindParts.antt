@@ -1,24 +1,26 @@
 -- The parts of each kind of cells, as the numbering has them. Assumes nothing.
-use mathlib.Core.Path.{◌≡◌, refl, sym}
+use mathlib.Core.Path.{◌≡◌, refl}
 use mathlib.Core.List.{List}
-use Prim.Native.Nat.{ℕ, ◌+◌, ◌*◌, ◌/◌, ◌≤◌, ◌<◌}
+use Prim.Native.Nat.{ℕ, ◌+◌, ◌/◌, ◌≤◌, ◌<◌}
 use native.Mathlib.Omega.{arith}
 use lib.ListN.{length, length-append, length-map}
 use Rattle.rules.specs.Lists.{concat, up_from, Key, index_of}
 use Rattle.rules.specs.Mesh.{singles, by_dimension, places, cell_parts}
-use Rattle.numbering.specs.Parts.{places_of, part_corners, cell_corners, part_keys, places_listed, Within, listed_keys}
-use Rattle.numbering.proofs.Places.{length_part_keys, length_listed, count_listed, listed_within, cell_listed}
+use Rattle.numbering.specs.Parts.{places_of, part_corners, cell_corners, part_keys, Within, listed_keys}
+use Rattle.numbering.proofs.Places.{length_part_keys, listed_within, sized_count, sized_keys}
 use Rattle.splitting.specs.declared.kinds.CellKind.{CellKind}
 use Rattle.splitting.specs.declared.kinds.CellKind.TheVariants.{Hex, Quad, Segment}
 use Rattle.splitting.specs.Kinds.{kind_of, corner_count, edges_of, faces_of}
+use Rattle.splitting.specs.declared.cells.Lists.{Lists}
+use Rattle.splitting.specs.Lists.{Listed}
 use Rattle.splitting.specs.Cells.{cell_numbers}
 
-pub edge_corners : (kind : CellKind) → part_corners (edges_of kind) ≡ 2
+pub edge_corners : (kind : CellKind) → 2 ≡ part_corners (edges_of kind)
 edge_corners Hex = refl
 edge_corners Quad = refl
 edge_corners Segment = refl
 
-pub face_corners : (kind : CellKind) → part_corners (faces_of kind) ≡ 4
+pub face_corners : (kind : CellKind) → 4 ≡ part_corners (faces_of kind)
 face_corners Hex = refl
 face_corners Quad = refl
 face_corners Segment = refl
@@ -74,29 +76,28 @@ some_corners Hex = omega arith
 some_corners Quad = omega arith
 some_corners Segment = omega arith
 
--- ---- the places of their corners, as they are listed
+-- ---- the lists that are lent
 
-module _ (kind : CellKind) where
-  pub edge_length : length (places_listed (edges_of kind)) ≡ 2 * length (places_of (edges_of kind))
-  edge_length = rw (edge_corners kind) at (length_listed (edges_of kind))
+module _ {lists : Lists} (h : Listed lists) where
+  pub edges_listed : (cell : List ℕ) → listed_keys 2 lists.edges.now cell ≡ part_keys (edges_of lists.kind) cell
+  edges_listed cell = rw h.edges_are (sized_keys (edges_of lists.kind) 2 (edge_corners lists.kind) cell)
 
-  pub face_length : length (places_listed (faces_of kind)) ≡ 4 * length (places_of (faces_of kind))
-  face_length = rw (face_corners kind) at (length_listed (faces_of kind))
+  pub faces_listed : (cell : List ℕ) → listed_keys 4 lists.faces.now cell ≡ part_keys (faces_of lists.kind) cell
+  faces_listed cell = rw h.faces_are (sized_keys (faces_of lists.kind) 4 (face_corners lists.kind) cell)
 
-  pub edge_count : length (places_listed (edges_of kind)) / 2 ≡ length (places_of (edges_of kind))
-  edge_count = sym (rw (edge_corners kind) at (count_listed (edges_of kind)))
+  pub edges_counted : length lists.edges.now / 2 ≡ length (places_of (edges_of lists.kind))
+  edges_counted = rw h.edges_are (sized_count (edges_of lists.kind) 2 (edge_corners lists.kind))
 
-  pub face_count : length (places_listed (faces_of kind)) / 4 ≡ length (places_of (faces_of kind))
-  face_count = sym (rw (face_corners kind) at (count_listed (faces_of kind)))
+  pub faces_counted : length lists.faces.now / 4 ≡ length (places_of (faces_of lists.kind))
+  faces_counted = rw h.faces_are (sized_count (faces_of lists.kind) 4 (face_corners lists.kind))
 
-  pub edge_within : Within (corner_count kind) (places_listed (edges_of kind))
-  edge_within = rw (edge_cell kind) at (listed_within (edges_of kind))
+  module _ (cell : List ℕ) (e : length cell ≡ corner_count lists.kind) where
+    pub edges_within : Within (length cell) lists.edges.now
+    edges_within = rw (h.edges_are, e, ← edge_cell lists.kind) (listed_within (edges_of lists.kind))
 
-  pub face_within : Within (corner_count kind) (places_listed (faces_of kind))
-  face_within = rw (face_cell kind) at (listed_within (faces_of kind))
+    pub faces_within : Within (length cell) lists.faces.now
+    faces_within = rw (h.faces_are, e, ← face_cell lists.kind) (listed_within (faces_of lists.kind))
 
-  pub edge_keys_lem : (cell : List ℕ) → listed_keys 2 (places_listed (edges_of kind)) cell ≡ part_keys (edges_of kind) cell
-  edge_keys_lem cell = rw (edge_corners kind) at (cell_listed (edges_of kind) cell)
-
-  pub face_keys_lem : (cell : List ℕ) → listed_keys 4 (places_listed (faces_of kind)) cell ≡ part_keys (faces_of kind) cell
-  face_keys_lem cell = rw (face_corners kind) at (cell_listed (faces_of kind) cell)
+    -- the numbers of the cell's fine vertices are few
+    pub few_fine : length cell + length lists.edges.now / 2 + length lists.faces.now / 4 + 1 ≤ 27
+    few_fine = omega (arith, numbers_fit lists.kind, e, edges_counted, faces_counted)

@@ -2,8 +2,6 @@
 pub mod Tables
 -- KindParts: the parts of each kind of cells.
 pub mod KindParts
--- Halves: a list of which a part was lent.
-pub mod Halves
 -- Walk: cells walked one after the other.
 pub mod Walk
 -- Fine: the children of all cells, in the words of the rules.

@@ -13,7 +13,7 @@ use Rattle.lists.proofs.Membership.{get_or_in, in_concat, map_same, concat_map_s
 use Rattle.lists.proofs.Tables.{length_concat}
 use Rattle.lists.proofs.Decide.{computed, dec_both, dec_each, dec_number, dec_below}
 use Rattle.numbering.specs.Parts.{Within}
-use Rattle.numbering.proofs.Rows.{row_of, listed_at, length_read}
+use Rattle.numbering.proofs.Rows.{listed_at, length_read}
 use Rattle.splitting.specs.declared.kinds.CellKind.{CellKind}
 use Rattle.splitting.specs.declared.kinds.CellKind.TheVariants.{Hex, Quad, Segment}
 use Rattle.splitting.specs.Kinds.{kind_of, corner_count, smallest_listed}
@@ -68,10 +68,6 @@ few_smallest kind = omega (arith, length_smallest kind, mul-le-mul (few_corners 
 
 -- place i of the list, by its row and column
 module _ (kind : CellKind) (i : ℕ) (l : i < length (smallest_listed kind)) where
-  pub row_column : (i / corner_count kind < corner_count kind) × (i % corner_count kind < corner_count kind)
-  unfolding smallest_listed
-  row_column = rw (table_rows kind) at (row_of (corner_count kind) (smallest_table (kind_of kind)) (some_corners kind) (row_length kind) i l)
-
   pub smallest_place : place_of (smallest_table (kind_of kind)) (i / corner_count kind) (i % corner_count kind) ≡ get_or (smallest_listed kind) i 0
   unfolding smallest_listed
   smallest_place = listed_at (corner_count kind) (smallest_table (kind_of kind)) (some_corners kind) (row_length kind) i l

@@ -1,20 +1,29 @@
 -- Cells walked one after the other: their keys and their children's corners, after i of them. Assumes nothing.
-use mathlib.Core.Path.{◌≡◌, sym, ap, ◌∙◌}
+use mathlib.Core.Path.{◌≡◌, refl, sym, ap, ◌∙◌}
 use mathlib.Core.List.{List, [], ◌∷◌, ◌++◌, append_assoc, append-nil}
-use Prim.Native.Nat.{ℕ, suc, ◌+◌, ◌*◌, ◌≤◌, ◌<◌}
-use native.Mathlib.Nat.{zero-add}
+use Prim.Native.Nat.{ℕ, suc, ◌+◌, ◌*◌, ◌/◌, ◌≤◌, ◌<◌}
+use native.Mathlib.Nat.{zero-add, mul_assoc}
 use native.Mathlib.Numerals.{add-one}
 use native.Mathlib.Omega.{arith}
 use lib.ListN.{length, get_or, take, drop}
-use lib.Seq.{sets}
+use lib.Seq.{sets, take_all}
 use Rattle.rules.specs.Lists.{concat_map, up_from, Key, meet_all}
 use Rattle.lists.proofs.Once.{concat_map_append, length_concat_map}
 use Rattle.lists.proofs.Membership.{length_up_from}
 use Rattle.lists.proofs.Distinct.{meet_all_append}
-use Rattle.memory.proofs.Stores.{sets_append}
+use Rattle.lists.proofs.Tables.{length_cut}
+use Rattle.memory.proofs.Stores.{sets_append, sets_front}
 use Rattle.numbering.specs.Table.{keys, MetAll}
+use Rattle.numbering.specs.Parts.{part_keys}
 use Rattle.numbering.proofs.Firsts.{up_from_snoc}
-use Rattle.numbering.proofs.Passes.{length_later, met_append, concat_map_at, concat_map_turn}
+use Rattle.numbering.proofs.Passes.{length_later, met_none, met_append, concat_map_at, concat_map_turn}
+use Rattle.splitting.specs.declared.kinds.CellKind.{CellKind}
+use Rattle.splitting.specs.declared.cells.Base.{Base}
+use Rattle.splitting.specs.declared.cells.Known.{Known}
+use Rattle.splitting.specs.Kinds.{kind_of, corner_count, edges_of, faces_of}
+use Rattle.splitting.specs.Cells.{cells_in, entry_of, edges_met, faces_met, cell_numbers, child_corners, first_children}
+use Rattle.splitting.specs.Words.{edges_in, faces_in, numbers_at, Room, BothMet, TableSplit}
+use Rattle.splitting.proofs.Tables.{children_length}
 
 -- ---- keys: f gives those of a cell
 
@@ -58,3 +67,73 @@ module _ (g : ℕ → List ℕ) (k : ℕ) (each : (i : ℕ) → length (g i) ≡
       ∙ concat_map_append g (up_from 0 i) ((0 + i) ∷ [])
       ∙ ap (λ (x : ℕ). s ++ (g x ++ [])) (zero-add i)
       ∙ ap (λ (r : List ℕ). s ++ r) (append-nil (g i))))
+
+-- ---- how many numbers are stored
+
+first_length : (kind : CellKind) (eb : ℕ) (es : List Key) (fb : ℕ) (fs : List Key) (own : ℕ) (cells : List ℕ) (n : ℕ) → length (first_children kind eb es fb fs own cells n) ≡ corner_count kind * corner_count kind * n
+unfolding first_children
+first_length kind eb es fb fs own cells n =
+    length_concat_map (λ (i : ℕ). child_corners (kind_of kind) (cell_numbers kind eb es fb fs (own + i) (get_or (cells_in kind cells) i []))) (corner_count kind * corner_count kind) (up_from 0 n) (λ i _. children_length kind _)
+    ∙ ap (λ (k : ℕ). corner_count kind * corner_count kind * k) (length_up_from 0 n)
+
+-- ---- the first i cells of a table have been split
+
+pub record Walked (base : Base) (ew₀ ew fw₀ fw : List ℕ) (n : Known) (kind : CellKind) (cells : List ℕ) (own : ℕ) (old new : List ℕ) (known : Known) (i : ℕ) : Type 0 where
+  pub met : BothMet base ew₀ ew fw₀ fw n (edges_met kind (take i (cells_in kind cells))) (faces_met kind (take i (cells_in kind cells))) known
+  pub stored : (es fs : List Key) → new ≡ sets old 0
+      (first_children kind base.vertices (meet_all (edges_in base ew₀ n) (edges_met kind (cells_in kind cells) ++ es)) (base.vertices + base.edges)
+      (meet_all (faces_in base fw₀ n) (faces_met kind (cells_in kind cells) ++ fs)) own cells i)
+
+pub walk_start : (base : Base) (ew fw : List ℕ) (n : Known) (kind : CellKind) (cells : List ℕ) (own : ℕ) (old : List ℕ) (es fs : List Key) → Room base ew fw n es fs → Walked base ew ew fw fw n kind cells own old old n 0
+unfolding concat_map up_from first_children
+walk_start base ew fw n kind cells own old es fs r = record { met = record { edges = met_none r.edge_table; faces = met_none r.face_table }; stored = λ es fs. refl }
+
+module _ {base : Base} {ew₀ ew fw₀ fw : List ℕ} {n : Known} {kind : CellKind} {cells : List ℕ} {own : ℕ} {old new : List ℕ} {known : Known} {i : ℕ} (p : Walked base ew₀ ew fw₀ fw n kind cells own old new known i) where
+  module _ (l : i < length cells / corner_count kind) where
+    listed : i < length (cells_in kind cells)
+    listed = omega (arith, length_cut (corner_count kind) cells)
+
+    -- room for all is room for the next cell
+    pub walk_room : Room base ew₀ fw₀ n (edges_met kind (cells_in kind cells)) (faces_met kind (cells_in kind cells)) → Room base ew fw known (part_keys (edges_of kind) (entry_of kind cells i)) (part_keys (faces_of kind) (entry_of kind cells i))
+    walk_room r = record {
+      edge_table = p.met.edges.table;
+      face_table = p.met.faces.table;
+      edges_fit = next_fits (part_keys (edges_of kind)) (cells_in kind cells) i listed p.met.edges r.edges_fit;
+      faces_fit = next_fits (part_keys (faces_of kind)) (cells_in kind cells) i listed p.met.faces r.faces_fit;
+    }
+
+    -- the next cell was split
+    pub walk_turn : {ew' fw' new' : List ℕ} {more : Known} → BothMet base ew ew' fw fw' known (part_keys (edges_of kind) (entry_of kind cells i)) (part_keys (faces_of kind) (entry_of kind cells i)) more → ((es fs : List Key) → new' ≡ sets new (corner_count kind * (corner_count kind * i)) (child_corners (kind_of kind) (numbers_at base ew fw known kind (entry_of kind cells i) (own + i) es fs))) → Walked base ew₀ ew' fw₀ fw' n kind cells own old new' more (i + 1)
+    unfolding first_children
+    walk_turn {ew'} {fw'} {new'} {more} m s = record {
+      met = record {
+        edges = next_met (part_keys (edges_of kind)) (cells_in kind cells) i listed p.met.edges m.edges;
+        faces = next_met (part_keys (faces_of kind)) (cells_in kind cells) i listed p.met.faces m.faces;
+      };
+      stored = λ es fs.
+          let cs = cells_in kind cells in
+          let cc = corner_count kind in
+          let all_edges = meet_all (edges_in base ew₀ n) (edges_met kind cs ++ es) in
+          let all_faces = meet_all (faces_in base fw₀ n) (faces_met kind cs ++ fs) in
+          let g : ℕ → List ℕ = λ j. child_corners (kind_of kind) (cell_numbers kind base.vertices all_edges (base.vertices + base.edges) all_faces (own + j) (entry_of kind cells j)) in
+          (rw (from_here (part_keys (edges_of kind)) cs i listed p.met.edges es, from_here (part_keys (faces_of kind)) cs i listed p.met.faces fs)
+          at (s (edges_met kind (drop (suc i) cs) ++ es) (faces_met kind (drop (suc i) cs) ++ fs)))
+          ∙ ap (λ (o : List ℕ). sets o (cc * (cc * i)) (g i)) (p.stored es fs)
+          ∙ ap (λ (x : ℕ). sets (sets old 0 (concat_map g (up_from 0 i))) x (g i)) (sym (mul_assoc cc cc i))
+          ∙ first_turn g (cc * cc) (λ j. children_length kind _) old i;
+    }
+
+  -- all cells have been split
+  pub walk_end : i ≡ length cells / corner_count kind → corner_count kind * (corner_count kind * (length cells / corner_count kind)) ≤ length old → BothMet base ew₀ ew fw₀ fw n (edges_met kind (cells_in kind cells)) (faces_met kind (cells_in kind cells)) known × TableSplit base ew₀ fw₀ n kind cells own (length cells / corner_count kind) old new
+  walk_end e l =
+      let k = corner_count kind in
+      let count = length cells / k in (
+        rw (take_all i (cells_in kind cells) (omega (arith, length_cut k cells))) at p.met,
+        λ es fs.
+            let es' = meet_all (edges_in base ew₀ n) (edges_met kind (cells_in kind cells) ++ es) in
+            let fs' = meet_all (faces_in base fw₀ n) (faces_met kind (cells_in kind cells) ++ fs) in
+            let fb = base.vertices + base.edges in
+            (rw e at (p.stored es fs))
+            ∙ sets_front old (first_children kind base.vertices es' fb fs' own cells count)
+            (omega (arith, first_length kind base.vertices es' fb fs' own cells count, mul_assoc k k count)),
+      )

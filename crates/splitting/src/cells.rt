@@ -1,16 +1,14 @@
-// A cell's fine vertices, numbered as its edges and faces are met, and its children. Edges and faces have a table each in the lent words:
-// the edges' table takes the first 4 E + 1, the faces' table the next 6 F + 1.
+// A cell's fine vertices, numbered as its edges and faces are met, and its children. Edges and faces have a table each, in words of their own.
 ghost use Rattle.std.specs.Prelude.{◌≡◌, ◌+◌, ◌*◌, ◌/◌, ◌^◌, ◌≤◌, ◌<◌, length};
-ghost use Rattle.std.proofs.lemmas.List.Edits.{sets};
 ghost use Rattle.rules.specs.Lists.{meet_all};
-ghost use Rattle.rules.specs.Split.{corners_at};
 ghost use Rattle.numbering.specs.Table.{keys, Table};
-ghost use Rattle.numbering.specs.Parts.{part_keys, places_listed, Within, listed_keys, Numbered};
-ghost use Rattle.splitting.specs.Kinds.{corner_count, edges_of, faces_of, Listed};
-ghost use Rattle.splitting.specs.Cells.{cells_in, entry_of, edges_met, faces_met};
-ghost use Rattle.splitting.specs.Words.{faces_at, edge_words, face_words, Room, BothMet, CellNumbered, CellSplit, TableSplit};
+ghost use Rattle.numbering.specs.Parts.{part_keys, Within, listed_keys, Numbered};
+ghost use Rattle.splitting.specs.Kinds.{corner_count, edges_of, faces_of};
+ghost use Rattle.splitting.specs.Lists.{Listed};
+ghost use Rattle.splitting.specs.Cells.{cells_in, edges_met, faces_met};
+ghost use Rattle.splitting.specs.Words.{Room, BothMet, CellNumbered, CellSplit, TableSplit};
 
-use crate::kinds;
+use crate::kinds::CellKind;
 use numbering::parts;
 
 // V, E and F of the mesh: behind the old vertices come those of the edges, then those of the faces.
@@ -28,335 +26,188 @@ pub struct Known {
     pub faces: usize,
 }
 
-// Meets the parts of a cell in a table that has room for them all: `meet_parts` of the numbering, which cannot answer `Full` here.
-fn number_parts(
+// The tables of a kind, as they are listed for its cells: the places of the corners of its edges and of its faces, and its smallest parts.
+#[derive(Clone, Copy)]
+struct Lists<'a> {
+    kind: CellKind,
+    edges: &'a [u8],
+    faces: &'a [u8],
+    smallest: &'a [u8],
+}
+
+// Meets the parts of a cell, of C corners each, in a table that has room for them all.
+fn number_parts<const C: usize>(
     w: &mut [u32],
     room: usize,
     n: usize,
     places: &[u8],
-    count: usize,
     cell: &[u32],
     base: usize,
-    key: &mut [u32],
     numbers: &mut [u32],
-    to: usize,
 ) -> usize
-    requires table { Table (length key.old) w.old room n }
-    requires cell_len_bound { length (meet_all (keys (length key.old) w.old room n) (listed_keys (length key.old) places.now cell.now)) ≤ room }
-    requires count_value { count ≡ length places.now / length key.old }
+    requires corners { (0 < C) × (C ≤ 8) }
+    requires table { Table C w.old room n }
+    requires keys_fit { length (meet_all (keys C w.old room n) (listed_keys C places.now cell.now)) ≤ room }
     requires within { Within (length cell.now) places.now }
     requires room_bound { base + room ≤ 2 ^ 32 }
-    requires count_in_bounds { to + count ≤ length numbers.old }
-    ensures { Numbered (length key.old) w.old w.new room n
-        (listed_keys (length key.old) places.now cell.now) base to numbers.old numbers.new result }
+    requires parts_in_bounds { length places.now / C ≤ length numbers.old }
+    ensures { Numbered C w.old w.new room n (listed_keys C places.now cell.now) base numbers.old numbers.new result }
 {
-    let met = parts::meet_parts(w, room, n, places, count, cell, base, key, numbers, to);
-    let parts::Tally::Keys(count) = met else {
-        return n;
-    };
-    count
+    parts::meet_parts::<C>(w, room, n, places, cell, base, numbers).unwrap_or(n)
 }
 
-// Meets the edges of a cell in their table, and writes the numbers of their vertices to `numbers` from `to` on. The places of their ends
-// are listed.
-fn number_edges(
-    w: &mut [u32],
-    base: Base,
-    n: usize,
-    places: &[u8],
-    cell: &[u32],
-    numbers: &mut [u32],
-    to: usize,
-) -> usize
-    requires table { Table 2 (edge_words base w.old) base.edges n }
-    requires cell_len_bound { length (meet_all (keys 2 (edge_words base w.old) base.edges n) (listed_keys 2 places.now cell.now)) ≤ base.edges }
-    requires within { Within (length cell.now) places.now }
-    requires edges_bound { base.vertices + base.edges ≤ 2 ^ 32 }
-    requires places_in_bounds { to + length places.now / 2 ≤ length numbers.old }
-    ensures numbered { Numbered 2 (edge_words base w.old) (edge_words base w.new) base.edges n
-        (listed_keys 2 places.now cell.now) base.vertices to numbers.old numbers.new result }
-    ensures w_unchanged { face_words base w.new ≡ face_words base w.old }
-{
-    let mut key = [0u32; 2];
-    let end = 4 * base.edges + 1;
-    let count = places.len() / 2;
-    number_parts(
-        &mut w[..end],
-        base.edges,
-        n,
-        places,
-        count,
-        cell,
-        base.vertices,
-        &mut key,
-        numbers,
-        to,
-    )
-}
-
-// The same of the faces, in their table.
-fn number_faces(
-    w: &mut [u32],
-    base: Base,
-    n: usize,
-    places: &[u8],
-    cell: &[u32],
-    numbers: &mut [u32],
-    to: usize,
-) -> usize
-    requires base_in_bounds { faces_at base ≤ length w.old }
-    requires table { Table 4 (face_words base w.old) base.faces n }
-    requires cell_len_bound { length (meet_all (keys 4 (face_words base w.old) base.faces n) (listed_keys 4 places.now cell.now)) ≤ base.faces }
-    requires within { Within (length cell.now) places.now }
-    requires faces_bound { base.vertices + base.edges + base.faces ≤ 2 ^ 32 }
-    requires places_in_bounds { to + length places.now / 4 ≤ length numbers.old }
-    ensures numbered { Numbered 4 (face_words base w.old) (face_words base w.new) base.faces n
-        (listed_keys 4 places.now cell.now) (base.vertices + base.edges) to numbers.old numbers.new result }
-    ensures w_unchanged { edge_words base w.new ≡ edge_words base w.old }
-{
-    let mut key = [0u32; 4];
-    let start = 4 * base.edges + 1;
-    let count = places.len() / 4;
-    number_parts(
-        &mut w[start..],
-        base.faces,
-        n,
-        places,
-        count,
-        cell,
-        base.vertices + base.edges,
-        &mut key,
-        numbers,
-        to,
-    )
-}
-
-// Meets the edges and faces of a cell, and writes the numbers of its fine vertices to the front of `numbers`: its corners, its edges, its
-// faces, its own.
+// Meets the edges and faces of a cell, each in their words, and writes the numbers of its fine vertices to the front of `numbers`: its
+// corners, its edges, its faces, its own.
 fn cell_numbers(
-    w: &mut [u32],
+    edge_words: &mut [u32],
+    face_words: &mut [u32],
     base: Base,
     n: Known,
-    kind: kinds::CellKind,
-    edge_places: &[u8],
-    face_places: &[u8],
+    lists: Lists,
     cell: &[u32],
     own: usize,
     numbers: &mut [u32],
 ) -> Known
-    requires room { Room base w.old n (part_keys (edges_of kind) cell.now) (part_keys (faces_of kind) cell.now) }
-    requires edge_places_value { edge_places.now ≡ places_listed (edges_of kind) }
-    requires face_places_value { face_places.now ≡ places_listed (faces_of kind) }
-    requires cell_len { length cell.now ≡ corner_count kind }
+    requires room { Room base edge_words.old face_words.old n (part_keys (edges_of lists.kind) cell.now) (part_keys (faces_of lists.kind) cell.now) }
+    requires listed { Listed lists }
+    requires cell_len { length cell.now ≡ corner_count lists.kind }
     requires faces_bound { base.vertices + base.edges + base.faces ≤ 2 ^ 32 }
     requires own_bound { own < 2 ^ 32 }
     requires numbers_in_bounds { 27 ≤ length numbers.old }
-    ensures both_met { BothMet base w.old w.new n (part_keys (edges_of kind) cell.now)
-        (part_keys (faces_of kind) cell.now) result }
-    ensures cell_numbered { CellNumbered base w.old n kind cell.now own numbers.old numbers.new }
+    ensures both_met { BothMet base edge_words.old edge_words.new face_words.old face_words.new n
+        (part_keys (edges_of lists.entry.kind) cell.now) (part_keys (faces_of lists.entry.kind) cell.now) result }
+    ensures cell_numbered { CellNumbered base edge_words.old face_words.old n lists.entry.kind cell.now own numbers.old numbers.new }
 {
-    memory::copy_u32(cell, numbers);
+    memory::copy(cell, numbers);
     let edges_to = cell.len();
-    let edges = number_edges(w, base, n.edges, edge_places, cell, numbers, edges_to);
-    let faces_to = edges_to + edge_places.len() / 2;
-    let faces = number_faces(w, base, n.faces, face_places, cell, numbers, faces_to);
-    let own_to = faces_to + face_places.len() / 4;
+    let faces_to = edges_to + lists.edges.len() / 2;
+    let own_to = faces_to + lists.faces.len() / 4;
+    let edges = number_parts::<2>(
+        edge_words,
+        base.edges,
+        n.edges,
+        lists.edges,
+        cell,
+        base.vertices,
+        &mut numbers[edges_to..],
+    );
+    let faces = number_parts::<4>(
+        face_words,
+        base.faces,
+        n.faces,
+        lists.faces,
+        cell,
+        base.vertices + base.edges,
+        &mut numbers[faces_to..],
+    );
     numbers[own_to] = own as u32;
-    Known {
-        edges: edges,
-        faces: faces,
-    }
+    Known { edges, faces }
 }
 
-// Writes the corners of all children of a cell, from the numbers of its parts, to `out` from `at` on.
-fn children(smallest: &[u8], numbers: &[u32], out: &mut [u32], at: usize)
-    requires within { Within (length numbers.now) smallest.now }
-    requires smallest_in_bounds { at + length smallest.now ≤ length out.old }
-    ensures { out.new ≡ sets out.old at (corners_at numbers.now smallest.now) }
-{
-    let end = at + smallest.len();
-    parts::load(smallest, numbers, &mut out[at..end]);
-}
-
-// Meets a cell, given by its corner numbers, and writes the corners of its children to `out` from `at` on. `numbers` is lent for the
+// Meets a cell, given by its corner numbers, and writes the corners of its children to the front of `out`. `numbers` is lent for the
 // numbers of its fine vertices.
 fn split_cell(
-    w: &mut [u32],
+    edge_words: &mut [u32],
+    face_words: &mut [u32],
     base: Base,
     n: Known,
-    kind: kinds::CellKind,
-    edge_places: &[u8],
-    face_places: &[u8],
-    smallest: &[u8],
+    lists: Lists,
     cell: &[u32],
     own: usize,
     numbers: &mut [u32],
     out: &mut [u32],
-    at: usize,
 ) -> Known
-    requires room { Room base w.old n (part_keys (edges_of kind) cell.now) (part_keys (faces_of kind) cell.now) }
-    requires listed { Listed kind edge_places.now face_places.now smallest.now }
-    requires cell_len { length cell.now ≡ corner_count kind }
+    requires room { Room base edge_words.old face_words.old n (part_keys (edges_of lists.kind) cell.now) (part_keys (faces_of lists.kind) cell.now) }
+    requires listed { Listed lists }
+    requires cell_len { length cell.now ≡ corner_count lists.kind }
     requires faces_bound { base.vertices + base.edges + base.faces ≤ 2 ^ 32 }
     requires own_bound { own < 2 ^ 32 }
-    requires children_in_bounds { at + corner_count kind * corner_count kind ≤ length out.old }
+    requires children_in_bounds { corner_count lists.kind * corner_count lists.kind ≤ length out.old }
     requires numbers_in_bounds { 27 ≤ length numbers.old }
-    ensures both_met { BothMet base w.old w.new n (part_keys (edges_of kind) cell.now)
-        (part_keys (faces_of kind) cell.now) result }
-    ensures cell_split { CellSplit base w.old n kind cell.now own at out.old out.new }
+    ensures both_met { BothMet base edge_words.old edge_words.new face_words.old face_words.new n
+        (part_keys (edges_of lists.entry.kind) cell.now) (part_keys (faces_of lists.entry.kind) cell.now) result }
+    ensures cell_split { CellSplit base edge_words.old face_words.old n lists.entry.kind cell.now own out.old out.new }
 {
-    let more = cell_numbers(
-        w,
-        base,
-        n,
-        kind,
-        edge_places,
-        face_places,
-        cell,
-        own,
-        numbers,
-    );
-    children(smallest, numbers, out, at);
+    let more = cell_numbers(edge_words, face_words, base, n, lists, cell, own, numbers);
+    parts::load(lists.smallest, numbers, &mut out[..lists.smallest.len()]);
     more
 }
 
-// Splits cell number i of a flat table: its corner numbers are fetched once, to the lent `cell`, and handed on.
-fn split_entry(
-    w: &mut [u32],
-    base: Base,
-    n: Known,
-    kind: kinds::CellKind,
-    edge_places: &[u8],
-    face_places: &[u8],
-    smallest: &[u8],
-    cells: &[u32],
-    i: usize,
-    own: usize,
-    cell: &mut [u32],
-    numbers: &mut [u32],
-    out: &mut [u32],
-) -> Known
-    requires room { Room base w.old n (part_keys (edges_of kind) (entry_of kind cells.now i)) (part_keys (faces_of kind) (entry_of kind cells.now i)) }
-    requires listed { Listed kind edge_places.now face_places.now smallest.now }
-    requires i_in_bounds { i < length cells.now / corner_count kind }
-    requires faces_bound { base.vertices + base.edges + base.faces ≤ 2 ^ 32 }
-    requires own_bound { own < 2 ^ 32 }
-    requires children_in_bounds { corner_count kind * (corner_count kind * (i + 1)) ≤ length out.old }
-    requires cell_in_bounds { 8 ≤ length cell.old }
-    requires numbers_in_bounds { 27 ≤ length numbers.old }
-    ensures both_met { BothMet base w.old w.new n (part_keys (edges_of kind) (entry_of kind cells.now i))
-        (part_keys (faces_of kind) (entry_of kind cells.now i)) result }
-    ensures cell_split { CellSplit base w.old n kind (entry_of kind cells.now i) own (corner_count kind * (corner_count kind * i))
-        out.old out.new }
-{
-    let corners = kinds::corner_count(kind);
-    let at = corners * i;
-    let end = at + corners;
-    memory::copy_u32(&cells[at..end], cell);
-    split_cell(
-        w,
-        base,
-        n,
-        kind,
-        edge_places,
-        face_places,
-        smallest,
-        &cell[..corners],
-        own,
-        numbers,
-        out,
-        corners * at,
-    )
-}
-
-// Splits all cells of a flat table, with the tables of their kind. The arrays for a cell's corners and for its numbers are made once and
-// lent to each turn: clearing them for each cell took a tenth of the time where there are only segments.
+// Splits all cells of a flat table, with the tables of their kind. The array for a cell's numbers is made once and lent to each turn:
+// clearing it for each cell took a tenth of the time where there are only segments.
 fn split_each(
-    w: &mut [u32],
+    edge_words: &mut [u32],
+    face_words: &mut [u32],
     base: Base,
     n: Known,
-    kind: kinds::CellKind,
-    edge_places: &[u8],
-    face_places: &[u8],
-    smallest: &[u8],
+    lists: Lists,
     cells: &[u32],
     own: usize,
     out: &mut [u32],
 ) -> Known
-    requires room { Room base w.old n (edges_met kind (cells_in kind cells.now)) (faces_met kind (cells_in kind cells.now)) }
-    requires listed { Listed kind edge_places.now face_places.now smallest.now }
+    requires room { Room base edge_words.old face_words.old n (edges_met lists.kind (cells_in lists.kind cells.now)) (faces_met lists.kind (cells_in lists.kind cells.now)) }
+    requires listed { Listed lists }
     requires faces_bound { base.vertices + base.edges + base.faces ≤ 2 ^ 32 }
-    requires own_bound { own + length cells.now / corner_count kind ≤ 2 ^ 32 }
-    requires children_in_bounds { corner_count kind * (corner_count kind * (length cells.now / corner_count kind)) ≤ length out.old }
-    ensures both_met { BothMet base w.old w.new n (edges_met kind (cells_in kind cells.now))
-        (faces_met kind (cells_in kind cells.now)) result }
-    ensures table_split { TableSplit base w.old n kind cells.now own (length cells.now / corner_count kind)
-        out.old out.new }
+    requires own_bound { own + length cells.now / corner_count lists.kind ≤ 2 ^ 32 }
+    requires children_in_bounds { corner_count lists.kind * (corner_count lists.kind * (length cells.now / corner_count lists.kind)) ≤ length out.old }
+    ensures both_met { BothMet base edge_words.old edge_words.new face_words.old face_words.new n
+        (edges_met lists.entry.kind (cells_in lists.entry.kind cells.now)) (faces_met lists.entry.kind (cells_in lists.entry.kind cells.now)) result }
+    ensures table_split { TableSplit base edge_words.old face_words.old n lists.entry.kind cells.now own
+        (length cells.now / corner_count lists.entry.kind) out.old out.new }
 {
-    let count = cells.len() / kinds::corner_count(kind);
-    let mut cell = [0u32; 8];
+    let corners = lists.kind.corner_count();
     let mut numbers = [0u32; 27];
     let mut known = n;
-    let mut i = 0;
-    while i < count {
-        known = split_entry(
-            w,
+    for i in 0..cells.len() / corners {
+        let at = corners * i;
+        known = split_cell(
+            edge_words,
+            face_words,
             base,
             known,
-            kind,
-            edge_places,
-            face_places,
-            smallest,
-            cells,
-            i,
+            lists,
+            &cells[at..at + corners],
             own + i,
-            &mut cell,
             &mut numbers,
-            out,
+            &mut out[corners * at..],
         );
-        i += 1;
     }
     known
 }
 
 // Splits all cells of a flat table. Their own vertices are numbered from `own` on; only those of hexes are among the children's corners.
 pub fn split_cells(
-    w: &mut [u32],
+    edge_words: &mut [u32],
+    face_words: &mut [u32],
     base: Base,
     n: Known,
-    kind: kinds::CellKind,
+    kind: CellKind,
     cells: &[u32],
     own: usize,
     out: &mut [u32],
 ) -> Known
-    requires room { Room base w.old n (edges_met kind (cells_in kind cells.now)) (faces_met kind (cells_in kind cells.now)) }
+    requires room { Room base edge_words.old face_words.old n (edges_met kind (cells_in kind cells.now)) (faces_met kind (cells_in kind cells.now)) }
     requires faces_bound { base.vertices + base.edges + base.faces ≤ 2 ^ 32 }
     requires own_bound { own + length cells.now / corner_count kind ≤ 2 ^ 32 }
     requires children_in_bounds { corner_count kind * (corner_count kind * (length cells.now / corner_count kind)) ≤ length out.old }
-    ensures both_met { BothMet base w.old w.new n (edges_met kind (cells_in kind cells.now))
-        (faces_met kind (cells_in kind cells.now)) result }
-    ensures table_split { TableSplit base w.old n kind cells.now own (length cells.now / corner_count kind)
-        out.old out.new }
+    ensures both_met { BothMet base edge_words.old edge_words.new face_words.old face_words.new n
+        (edges_met kind (cells_in kind cells.now)) (faces_met kind (cells_in kind cells.now)) result }
+    ensures table_split { TableSplit base edge_words.old face_words.old n kind cells.now own
+        (length cells.now / corner_count kind) out.old out.new }
 {
-    let edges = kinds::edges_of(kind);
-    let faces = kinds::faces_of(kind);
-    let corners = kinds::corner_count(kind);
+    let corners = kind.corner_count();
+    let edges = kind.edges();
+    let faces = kind.faces();
     let edge_places = parts::listed(edges, 2);
     let face_places = parts::listed(faces, 4);
-    let smallest = kinds::listed(kind);
+    let smallest = kind.smallest_parts();
     let edges_end = 2 * parts::count_of(edges);
     let faces_end = 4 * parts::count_of(faces);
-    let end = corners * corners;
-    split_each(
-        w,
-        base,
-        n,
+    let lists = Lists {
         kind,
-        &edge_places[..edges_end],
-        &face_places[..faces_end],
-        &smallest[..end],
-        cells,
-        own,
-        out,
-    )
+        edges: &edge_places[..edges_end],
+        faces: &face_places[..faces_end],
+        smallest: &smallest[..corners * corners],
+    };
+    split_each(edge_words, face_words, base, n, lists, cells, own, out)
 }

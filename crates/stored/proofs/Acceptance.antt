@@ -1,24 +1,28 @@
 -- What an accepted file and an accepted mesh are known to be, and that what is so is accepted.
 use Prim.Native.Nat.{ℕ, zero, suc, ◌%◌, ◌^◌, ◌≤◌, ◌<◌}
-use mathlib.Core.Path.{◌≡◌, refl, sym, ap, ◌∙◌}
+use mathlib.Core.Path.{◌≡◌, refl, sym, ap, ap₂, ◌∙◌}
 use mathlib.Core.Bool.{Bool, true, false, not}
 use mathlib.Core.List.{List}
 use native.Mathlib.Omega.{arith}
 use lib.ListN.{length}
 use lib.Dec.{ltb, eqb}
 use borrow.Author.Tests.{ltb-false, le-ltb, eqb-true, eq-eqb, not-false}
+use Rattle.std.specs.Prelude.{Ok, Err}
 use Rattle.rules.specs.declared.Counts.{Counts}
+use Rattle.rules.specs.declared.CountsAnswer.{CountsAnswer}
+use Rattle.rules.specs.declared.Refusal.{Refusal}
+use Rattle.rules.specs.Answers.{number_of, counts_answer_of}
+use Rattle.rules.proofs.Named.{number_is_suc, refused_counts}
 use Rattle.rules.specs.Lists.{any}
 use Rattle.rules.specs.Mesh.{Mesh, topology}
 use Rattle.rules.specs.Counts.{counts_of, out_of_range, fewer}
 use Rattle.rules.specs.Refusals.{check, partial_entry, count_out_of_range, outside, coordinate_out_of_range, corner_out_of_range, table_checks}
-use Rattle.rules.specs.EntryPoints.{counts_answer, result_tables}
+use Rattle.rules.specs.EntryPoints.{counts_answer, result_buffer, result_tables}
 use Rattle.rules.specs.Bits.{number, bytes_for, filling}
 use Rattle.rules.specs.StoredForm.{header_of, index_width, layout, stored_mesh, header_cut, unknown_form, wrong_width, wrong_length, spare_bits, header_checks, reading_refusal}
 use Rattle.checks.proofs.Passed.{TablesPass, tables_pass}
-use Rattle.stored.specs.declared.header.Head.TheVariants as H
 use Rattle.stored.specs.Form.{header_for}
-use Rattle.stored.specs.Reading.{head_of, answer_of, whole_header_checks, body_checks, file_checks}
+use Rattle.stored.specs.Reading.{whole_header_checks, body_checks, file_checks}
 
 -- ---- checks in a row
 
@@ -76,26 +80,41 @@ pub reading_later : (s : List ℕ) (lent : Counts) → reading_refusal s lent �
 unfolding reading_refusal file_checks whole_header_checks body_checks
 reading_later s lent = file_later s (check (fewer lent (header_of s).counts) 11 0)
 
--- ---- answers
+-- ---- results
 
-pub head_read : (n : ℕ) (c d : Counts) → head_of n c ≡ H.Read d → (n ≡ 0) × (c ≡ d)
-head_read zero c d e = (refl, cc)
-head_read (suc n) c d e = absurd (let z : ◌≡◌ {A = ℕ} 0 1 = cc in omega arith)
+-- a result whose answer is known tells the refusal and the counts
+pub counts_refusal : (n : ℕ) (c : Counts) → (counts_answer n c).refusal ≡ n
+counts_refusal zero c = refl
+counts_refusal (suc n) c = refl
+
+pub refusal_told : (n : ℕ) (c : Counts) (r : Refusal) → counts_answer_of (Err r) ≡ counts_answer n c → n ≡ number_of r
+refusal_told n c r e = sym (counts_refusal n c) ∙ ap (λ (x : CountsAnswer). x.refusal) (sym e)
+
+pub counts_told : (n : ℕ) (c d : Counts) → counts_answer_of (Ok d) ≡ counts_answer n c → (n ≡ 0) × (c ≡ d)
+counts_told zero c d e = (refl, ap (λ (x : CountsAnswer). x.counts) (sym e))
+counts_told (suc n) c d e = absurd (omega (arith, ap (λ (x : CountsAnswer). x.refusal) e))
+
+-- and back
+pub refused : (n : ℕ) (c : Counts) (r : Refusal) → n ≡ number_of r → counts_answer_of (Err r) ≡ counts_answer n c
+refused n c r e = sym (ap (λ (k : ℕ). counts_answer k c) e ∙ refused_counts r c)
+
+pub answered : (n : ℕ) (c d : Counts) → n ≡ 0 → c ≡ d → counts_answer_of (Ok d) ≡ counts_answer n c
+answered n c d e h = sym (ap₂ counts_answer e h)
 
 -- a refusal stays, whatever later checks say
-pub head_refused : (n k later : ℕ) (c : Counts) → head_of n c ≡ H.Refused k → head_of (or_later n later) c ≡ H.Refused k
-head_refused zero k later c e = absurd (let z : ◌≡◌ {A = ℕ} 0 1 = cc in omega arith)
-head_refused (suc n) k later c e = e
+pub refusal_stays : (n later : ℕ) (r : Refusal) → n ≡ number_of r → or_later n later ≡ number_of r
+refusal_stays zero later r e = let k = (number_is_suc r).1 in absurd (omega arith)
+refusal_stays (suc n) later r e = e
 
-pub answer_head : (n : ℕ) (c : Counts) → answer_of (head_of n c) ≡ counts_answer n c
-answer_head zero c = refl
-answer_head (suc n) c = refl
-
--- a refusal changes no table
-pub refused_tables : (n k : ℕ) (c : Counts) (old new : Mesh) → head_of n c ≡ H.Refused k → result_tables n old new ≡ old
+-- and changes no table, nor a buffer
+pub refused_tables : (n : ℕ) (r : Refusal) (old new : Mesh) → n ≡ number_of r → result_tables n old new ≡ old
 unfolding result_tables
-refused_tables zero k c old new e = absurd (let z : ◌≡◌ {A = ℕ} 0 1 = cc in omega arith)
-refused_tables (suc n) k c old new e = refl
+refused_tables zero r old new e = let k = (number_is_suc r).1 in absurd (omega arith)
+refused_tables (suc n) r old new e = refl
+
+pub refused_buffer : (n : ℕ) (r : Refusal) (old new : List ℕ) → n ≡ number_of r → result_buffer n old new ≡ old
+refused_buffer zero r old new e = let k = (number_is_suc r).1 in absurd (omega arith)
+refused_buffer (suc n) r old new e = refl
 
 -- ---- an accepted file
 

@@ -1,11 +1,16 @@
--- The returns of the two entry points, case by case: the answer, and what lent memory holds.
+-- What reading and writing return, case by case: the answer, and what lent memory holds.
 use Prim.Native.Nat.{ℕ, zero, suc, ◌≤◌, ◌<◌}
 use mathlib.Core.Path.{◌≡◌, refl, sym, ap, ap₂, subst, ◌∙◌}
 use mathlib.Core.Bool.{Bool, true, false}
 use mathlib.Core.List.{List}
 use lib.ListN.{length, take}
 use borrow.Author.Tests.{lt-ltb, le-ltb}
+use Rattle.std.specs.Prelude.{Result, Ok, Err}
 use Rattle.rules.specs.declared.Counts.{Counts}
+use Rattle.rules.specs.declared.Refusal.{Refusal}
+use Rattle.rules.specs.declared.Refusal.TheVariants.{ShortBuffer}
+use Rattle.rules.specs.Answers.{number_of, counts_answer_of, count_answer_of}
+use Rattle.rules.proofs.Named.{refused_count}
 use Rattle.rules.specs.declared.CountsAnswer.{CountsAnswer}
 use Rattle.rules.specs.declared.CountAnswer.{CountAnswer}
 use Rattle.rules.specs.Lists.{overwritten}
@@ -16,67 +21,59 @@ use Rattle.rules.specs.EntryPoints.{counts_answer, count_answer, result_buffer, 
 use Rattle.rules.specs.StoredForm.{stored_form, header_of, stored_mesh, reading_refusal, reading_answer, reading_output, writing_refusal, writing_answer, writing_output}
 use Rattle.checks.proofs.Passed.{TablesPass}
 use Rattle.bits.specs.Writing.{Bytes}
-use Rattle.stored.specs.declared.header.Head.{Head}
-use Rattle.stored.specs.declared.header.Head.TheVariants as H
-use Rattle.stored.specs.Reading.{head_of, answer_of, file_checks}
-use Rattle.stored.proofs.Acceptance.{or_later, reading_later, head_read, head_refused, answer_head, refused_tables, reading_accepted, tables_later, mesh_passes, passing}
+use Rattle.stored.specs.Reading.{file_checks}
+use Rattle.stored.proofs.Acceptance.{or_later, reading_later, counts_refusal, refusal_told, counts_told, refused, answered, refusal_stays, refused_tables, refused_buffer, reading_accepted, tables_later, mesh_passes, passing}
 use Rattle.stored.proofs.Form.{Sized, stored_under, under_sized, begins, front_result}
 use Rattle.stored.proofs.Inverse.{writes_back, reads_back}
 
 -- ---- reading
 
 module _ (s : List ℕ) (t : Mesh) where
-  -- a head that carries reading's refusal gives its answer
-  head_answer : (h : Head) → h ≡ head_of (reading_refusal s (counts_of t)) (header_of s).counts → answer_of h ≡ reading_answer s t
-  unfolding reading_answer
-  head_answer h e = ap answer_of e ∙ answer_head (reading_refusal s (counts_of t)) (header_of s).counts
+  -- the answer and the tables where the result is known
+  pub record Read (r : Result Counts Refusal) (after : Mesh) : Type 0 where
+    pub answer : counts_answer_of r ≡ reading_answer s t
+    pub output : after ≡ reading_output s t
 
   -- a refusal changes no table
-  unchanged : {n : ℕ} → H.Refused n ≡ head_of (reading_refusal s (counts_of t)) (header_of s).counts → t ≡ reading_output s t
-  unfolding reading_output
-  unchanged {n} e = sym (refused_tables (reading_refusal s (counts_of t)) n (header_of s).counts t (stored_mesh s) (sym e))
-
-  pub record Refused (n : ℕ) : Type 0 where
-    pub answer : answer_of (H.Refused n) ≡ reading_answer s t
-    pub output : t ≡ reading_output s t
+  unread : (r : Refusal) → reading_refusal s (counts_of t) ≡ number_of r → Read (Err r) t
+  unfolding reading_answer reading_output
+  unread r e = record {
+    answer = refused (reading_refusal s (counts_of t)) (header_of s).counts r e;
+    output = sym (refused_tables (reading_refusal s (counts_of t)) r t (stored_mesh s) e);
+  }
 
   -- by the checks of the file
-  pub file_refused : {n : ℕ} → head_of (file_checks s 0) (header_of s).counts ≡ H.Refused n → Refused n
-  file_refused {n} e =
-      let c = (header_of s).counts in
-      let same : H.Refused n ≡ head_of (reading_refusal s (counts_of t)) c =
-      sym (ap (λ (k : ℕ). head_of k c) (reading_later s (counts_of t)) ∙ head_refused (file_checks s 0) n _ c e) in
-      record { answer = head_answer (H.Refused n) same; output = unchanged same }
+  pub file_refused : (r : Refusal) → counts_answer_of (Err r) ≡ counts_answer (file_checks s 0) (header_of s).counts → Read (Err r) t
+  file_refused r e =
+      unread r (reading_later s (counts_of t) ∙ refusal_stays (file_checks s 0) _ r (refusal_told (file_checks s 0) (header_of s).counts r e))
 
-  module _ (c : Counts) (e : head_of (file_checks s 0) (header_of s).counts ≡ H.Read c) where
+  module _ (c : Counts) (e : counts_answer_of (Ok c) ≡ counts_answer (file_checks s 0) (header_of s).counts) where
     pub counts_read : (header_of s).counts ≡ c
-    counts_read = (head_read (file_checks s 0) (header_of s).counts c e).1
+    counts_read = (counts_told (file_checks s 0) (header_of s).counts c e).1
 
     -- all that is left is check 11
     only_room : (b : Bool) → fewer (counts_of t) c ≡ b → reading_refusal s (counts_of t) ≡ check b 11 0
     only_room b h =
         reading_later s (counts_of t)
-        ∙ ap₂ (λ (k : ℕ) (x : Bool). or_later k (check x 11 0)) (head_read (file_checks s 0) (header_of s).counts c e).0 (ap (fewer (counts_of t)) counts_read ∙ h)
+        ∙ ap₂ (λ (k : ℕ) (x : Bool). or_later k (check x 11 0)) (counts_told (file_checks s 0) (header_of s).counts c e).0 (ap (fewer (counts_of t)) counts_read ∙ h)
 
     -- by the lent tables
-    pub tables_refused : fewer (counts_of t) c ≡ true → Refused 11
-    tables_refused h =
-        let same = ap (λ (k : ℕ). head_of k (header_of s).counts) (sym (only_room true h)) in
-        record { answer = head_answer (H.Refused 11) same; output = unchanged same }
+    pub tables_refused : fewer (counts_of t) c ≡ true → Read (Err ShortBuffer) t
+    tables_refused h = unread ShortBuffer (only_room true h)
 
     pub accepted_reading : fewer (counts_of t) c ≡ false → reading_refusal s (counts_of t) ≡ 0
     accepted_reading h = only_room false h
 
-    pub accepted_answer : fewer (counts_of t) c ≡ false → answer_of (H.Read c) ≡ reading_answer s t
-    accepted_answer h = head_answer (H.Read c) (ap₂ head_of (sym (only_room false h)) (sym counts_read))
+    pub accepted_answer : fewer (counts_of t) c ≡ false → counts_answer_of (Ok c) ≡ reading_answer s t
+    unfolding reading_answer
+    accepted_answer h = answered (reading_refusal s (counts_of t)) (header_of s).counts c (only_room false h) counts_read
 
     pub accepted_output : fewer (counts_of t) c ≡ false → result_tables 0 t (stored_mesh s) ≡ reading_output s t
     unfolding reading_output
     accepted_output h = ap (λ (k : ℕ). result_tables k t (stored_mesh s)) (sym (only_room false h))
 
-  counts_refusal : (n : ℕ) (c : Counts) → (counts_answer n c).refusal ≡ n
-  counts_refusal zero c = refl
-  counts_refusal (suc n) c = refl
+    pub tables_read : fewer (counts_of t) c ≡ false → Read (Ok c) (result_tables 0 t (stored_mesh s))
+    tables_read h = record { answer = accepted_answer h; output = accepted_output h }
 
   -- The mesh that stands in the tables after reading, written again, gives the same bytes.
   pub promised_bytes : (r : CountsAnswer) (after : Mesh) → r ≡ reading_answer s t → after ≡ reading_output s t → Bytes s → r.refusal ≡ 0
@@ -95,30 +92,30 @@ module _ (s : List ℕ) (t : Mesh) where
 -- ---- writing
 
 module _ (m : Mesh) (d : List ℕ) where
-  -- the answer and the buffer where the refusal is known
-  pub record Returned (n count : ℕ) (after : List ℕ) : Type 0 where
-    pub answer : ◌≡◌ {A = CountAnswer} (record { refusal = n; count = count }) (writing_answer m d)
+  -- the answer and the buffer where the result is known
+  pub record Written (r : Result ℕ Refusal) (after : List ℕ) : Type 0 where
+    pub answer : count_answer_of r ≡ writing_answer m d
     pub output : after ≡ writing_output m d
 
-  refused : (n : ℕ) → writing_refusal m (length d) ≡ suc n → Returned (suc n) 0 d
+  unwritten : (r : Refusal) → writing_refusal m (length d) ≡ number_of r → Written (Err r) d
   unfolding writing_answer writing_output
-  refused n e = record {
-    answer = ap (λ (k : ℕ). count_answer k (length (stored_form m))) (sym e);
-    output = ap (λ (k : ℕ). result_buffer k d (stored_form m)) (sym e);
+  unwritten r e = record {
+    answer = sym (ap (λ (k : ℕ). count_answer k (length (stored_form m))) e ∙ refused_count r (length (stored_form m)));
+    output = sym (refused_buffer (writing_refusal m (length d)) r d (stored_form m) e);
   }
 
   -- by the checks of the mesh
-  pub mesh_refused : (n : ℕ) → n ≡ table_checks m 0 → (n ≡ 0 → ⊥) → Returned n 0 d
+  pub mesh_refused : (r : Refusal) → number_of r ≡ table_checks m 0 → Written (Err r) d
   unfolding writing_refusal
-  mesh_refused zero e ne = absurd (ne refl)
-  mesh_refused (suc n) e ne = refused n (tables_later m _ ∙ rw (← e))
+  mesh_refused r e = unwritten r (tables_later m _ ∙ refusal_stays (table_checks m 0) _ r (sym e))
 
   -- by the lent buffer
-  pub buffer_refused : TablesPass m → length d < length (stored_form m) → Returned 11 0 d
+  pub buffer_refused : TablesPass m → length d < length (stored_form m) → Written (Err ShortBuffer) d
   unfolding writing_refusal
-  buffer_refused w l = refused 10 (passing m _ w ∙ rw (lt-ltb (length d) (length (stored_form m)) l))
+  buffer_refused w l = unwritten ShortBuffer (passing m _ w ∙ rw (lt-ltb (length d) (length (stored_form m)) l))
 
-  pub accepted_writing : TablesPass m → length (stored_form m) ≤ length d → Returned 0 (length (stored_form m)) (overwritten d (stored_form m))
+  pub accepted_writing : TablesPass m → length (stored_form m) ≤ length d
+      → Written (Ok (length (stored_form m))) (overwritten d (stored_form m))
   unfolding writing_refusal writing_answer writing_output
   accepted_writing w l =
       let none : writing_refusal m (length d) ≡ 0 = passing m _ w ∙ rw (le-ltb (length d) (length (stored_form m)) l) in

@@ -1,12 +1,13 @@
 -- The index width and the bits of each table are small where the counts are in their ranges.
-use Prim.Native.Nat.{ℕ, ◌+◌, ◌-◌, ◌*◌, ◌≤◌, ◌<◌}
+use Prim.Native.Nat.{ℕ, ◌+◌, ◌-◌, ◌*◌, ◌^◌, ◌≤◌, ◌<◌}
 use mathlib.Core.Path.{◌≡◌, refl, sym, ap, ◌∙◌, subst}
 use mathlib.Core.Bool.{false}
 use native.Mathlib.Nat.{mul-le-mul_left, mul-le-mul_right, le_trans}
 use native.Mathlib.Omega.{arith}
 use Rattle.rules.specs.declared.Counts.{Counts}
-use Rattle.rules.specs.Counts.{out_of_range}
-use Rattle.rules.specs.Bits.{bytes_for}
+use Rattle.rules.specs.declared.Sizes.{Sizes}
+use Rattle.rules.specs.Counts.{out_of_range, counts_in}
+use Rattle.rules.specs.Bits.{bytes_for, width_of}
 use Rattle.rules.specs.StoredForm.{index_width, layout}
 use Rattle.soundness.specs.Growth.{InRange}
 use Rattle.soundness.proofs.Rounds.{in_range_lem}
@@ -43,6 +44,11 @@ small w c h e =
       points = times w c.points 250_000 l r.points;
     }
 
+-- the same of the width that is computed
+pub computed : (w : ℕ) (c : Counts) → out_of_range c ≡ false → w ≡ width_of (c.vertices - 1) → Small w c
+unfolding index_width
+computed w c h e = small w c h e
+
 -- the layout in numbers
 pub record Numbers (c : Counts) (at : Layout) : Type 0 where
   pub vertices : 101 + 30 * (3 * c.vertices) ≡ at.hexes
@@ -74,4 +80,24 @@ numbers c at h l =
       close = rw bytes (bytes_for_lt at.end);
       header = omega (arith, end);
       short = omega (arith, end, s.range.vertices, s.hexes, s.quads, s.segments, s.points);
+    }
+
+-- counts in their ranges, among sizes, are words
+pub record Words (p : Sizes) : Type 0 where
+  pub vertices : p.vertices < 2 ^ 32
+  pub hexes : p.hexes < 2 ^ 32
+  pub quads : p.quads < 2 ^ 32
+  pub segments : p.segments < 2 ^ 32
+  pub points : p.points < 2 ^ 32
+
+pub places_fit : (p : Sizes) (c : Counts) → counts_in p ≡ c → out_of_range c ≡ false → Words p
+unfolding counts_in
+places_fit p c e h =
+    let r = in_range_lem (counts_in p) (ap out_of_range e ∙ h) in
+    record {
+      vertices = omega (arith, r.vertices);
+      hexes = omega (arith, r.hexes);
+      quads = omega (arith, r.quads);
+      segments = omega (arith, r.segments);
+      points = omega (arith, r.points);
     }

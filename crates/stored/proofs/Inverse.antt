@@ -26,7 +26,8 @@ use Rattle.checks.proofs.ByKind.{corner_tables}
 use Rattle.bits.specs.Writing.{Bytes, Fit}
 use Rattle.bits.proofs.Fields.{bytes_for_ge}
 use Rattle.bits.proofs.IndexWidth.{width_le, width_holds}
-use Rattle.bits.proofs.Coordinates.{to_field_lt, of_field_to_field, of_field_near, get_or_to_field, get_or_of_field}
+use Rattle.bits.specs.Entries.{of_field_to_field}
+use Rattle.bits.proofs.Coordinates.{to_field_lt, of_field_near, get_or_to_field, get_or_of_field}
 use Rattle.bits.proofs.Encoding.{Stand, bits_in_append, fit_append, fit_table, length_encode, encode_filling, encoded_stand, stand_encoded, stand_parts}
 use Rattle.stored.specs.Form.{header_for}
 use Rattle.stored.proofs.Acceptance.{Accepted, reading_accepts, passing, pass_range, pass_near}

@@ -1,5 +1,5 @@
 -- Words of inner contracts: the header that a mesh calls for, and the code's layout against the rules'.
-use Rattle.std.specs.Prelude.{◌≡◌, ℕ, ◌+◌, ◌*◌, ◌/◌}
+use Rattle.std.specs.Prelude.{◌≡◌, ◌+◌, ◌*◌}
 use Rattle.rules.specs.declared.Counts.{Counts}
 use Rattle.rules.specs.Bits.{bytes_for}
 use Rattle.rules.specs.StoredForm.{Header, form_number, index_width, layout}
@@ -8,10 +8,6 @@ use Rattle.stored.specs.declared.layout.Layout.{Layout}
 -- the header of a file with these counts
 abbrev pub header_for : Counts → Header
 header_for c = record { form = form_number; width = index_width c; counts = c }
-
--- the counts of tables of these lengths; of lent tables, how many places they have
-abbrev pub places : ℕ → ℕ → ℕ → ℕ → ℕ → Counts
-places xs hexes quads segments points = record { vertices = xs / 3; hexes = hexes / 8; quads = quads / 4; segments = segments / 2; points = points / 1 }
 
 -- r is the layout of a file with these counts
 pub record Laid (c : Counts) (r : Layout) : Type 0 where

@@ -1,13 +1,8 @@
--- Words of inner contracts: the checks of a file, part by part in reading's order, and the answers that they lead to.
-use Rattle.std.specs.Prelude.{List, ℕ, zero, suc}
-use Rattle.rules.specs.declared.Counts.{Counts}
-use Rattle.rules.specs.declared.CountsAnswer.{CountsAnswer}
+-- Words of inner contracts: the checks of a file, part by part in reading's order.
+use Rattle.std.specs.Prelude.{List, ℕ}
 use Rattle.rules.specs.Mesh.{topology}
-use Rattle.rules.specs.Counts.{no_counts}
 use Rattle.rules.specs.Refusals.{check, corner_out_of_range}
 use Rattle.rules.specs.StoredForm.{stored_mesh, wrong_width, wrong_length, spare_bits, header_checks}
-use Rattle.stored.specs.declared.header.Head.{Head}
-use Rattle.stored.specs.declared.header.Head.TheVariants as H
 
 -- 13 (under 13 bytes), 14, 2 and 15, and then what the later checks say
 unfoldable pub whole_header_checks : List ℕ → ℕ → ℕ
@@ -23,13 +18,3 @@ body_checks s later =
 -- all of reading's checks but 11
 unfoldable pub file_checks : List ℕ → ℕ → ℕ
 file_checks s later = whole_header_checks s (body_checks s later)
-
--- no refusal, with the counts; or the refusal
-abbrev pub head_of : ℕ → Counts → Head
-head_of zero c = H.Read c
-head_of (suc n) c = H.Refused (suc n)
-
--- the answer of the entry points for each case
-abbrev pub answer_of : Head → CountsAnswer
-answer_of (H.Read c) = record { refusal = 0; counts = c }
-answer_of (H.Refused n) = record { refusal = n; counts = no_counts }

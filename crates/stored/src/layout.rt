@@ -19,6 +19,7 @@ pub struct Layout {
     pub bytes: usize,
 }
 
+#[tactic(auto, using(crate::proofs::Bounds::computed, soundness::proofs::Rounds::in_range_lem))]
 pub fn layout_of(c: Counts) -> Layout
     requires { out_of_range c ≡ false }
     ensures { Laid c result }

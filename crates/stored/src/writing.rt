@@ -1,26 +1,28 @@
 // A mesh as fields, put into a buffer.
 ghost use Rattle.std.specs.Prelude.{◌≡◌, false, ◌^◌, ◌≤◌, ◌<◌, length};
 ghost use Rattle.rules.specs.Lists.{overwritten};
-ghost use Rattle.rules.specs.Mesh.{mesh};
 ghost use Rattle.rules.specs.Counts.{counts_of, out_of_range};
 ghost use Rattle.rules.specs.Refusals.{table_checks};
 ghost use Rattle.rules.specs.StoredForm.{form_number, index_width, header_fields, stored_form};
 ghost use Rattle.bits.specs.Writing.{put_all};
-ghost use Rattle.stored.specs.Form.{places};
+ghost use Rattle.tables.specs.Lent.{mesh_in};
 
 use rules::Counts;
+use tables::MeshTables;
 
-// The counts of tables of these lengths.
-pub fn counts_of(xs: usize, hexes: usize, quads: usize, segments: usize, points: usize) -> Counts
-    requires { out_of_range (places xs hexes quads segments points) ≡ false }
-    ensures { result ≡ places xs hexes quads segments points }
+// The counts of a mesh that has them in their ranges.
+#[tactic(auto, using(crate::proofs::Bounds::places_fit))]
+pub fn counts_of(mesh: MeshTables) -> Counts
+    requires { out_of_range (counts_of (mesh_in mesh)) ≡ false }
+    ensures { result ≡ counts_of (mesh_in mesh.entry) }
 {
+    let places = mesh.places();
     Counts {
-        vertices: (xs / 3) as u32,
-        hexes: (hexes / 8) as u32,
-        quads: (quads / 4) as u32,
-        segments: (segments / 2) as u32,
-        points: points as u32,
+        vertices: places.vertices as u32,
+        hexes: places.hexes as u32,
+        quads: places.quads as u32,
+        segments: places.segments as u32,
+        points: places.points as u32,
     }
 }
 
@@ -40,23 +42,14 @@ fn put_header(d: &mut [u8], width: u32, c: Counts) -> usize
 }
 
 // Puts a mesh that passed its checks at the front of a buffer that has room.
-pub fn put_mesh(
-    d: &mut [u8],
-    c: Counts,
-    width: u32,
-    xs: &[i32],
-    hexes: &[u32],
-    quads: &[u32],
-    segments: &[u32],
-    points: &[u32],
-)
-    requires { let m = mesh xs.now hexes.now quads.now segments.now points.now in (table_checks m 0 ≡ 0) × (c ≡ counts_of m) × (width ≡ index_width c) × (length (stored_form m) ≤ length d.old) }
-    ensures { d.new ≡ overwritten d.old (stored_form (mesh xs.now hexes.now quads.now segments.now points.now)) }
+pub fn put_mesh(d: &mut [u8], c: Counts, width: u32, mesh: MeshTables)
+    requires { let m = mesh_in mesh in (table_checks m 0 ≡ 0) × (c ≡ counts_of m) × (width ≡ index_width c) × (length (stored_form m) ≤ length d.old) }
+    ensures { d.new ≡ overwritten d.old (stored_form (mesh_in mesh.entry)) }
 {
     let at = put_header(d, width, c);
-    let at = bits::put_coordinates(d, at, xs);
-    let at = bits::put_table(d, at, width, hexes);
-    let at = bits::put_table(d, at, width, quads);
-    let at = bits::put_table(d, at, width, segments);
-    bits::put_table(d, at, width, points);
+    let at = bits::put_table(d, at, 30, mesh.vertices);
+    let at = bits::put_table(d, at, width, mesh.hexes);
+    let at = bits::put_table(d, at, width, mesh.quads);
+    let at = bits::put_table(d, at, width, mesh.segments);
+    bits::put_table(d, at, width, mesh.points);
 }

@@ -1,5 +1,0 @@
--- The number falls from call to call.
-use Rattle.lines.proofs.append.+append_decimal.Given as goal
-
-abbrev pub decreases-append_decimal : goal.decreases-append_decimal
-decreases-append_decimal l = l.n

@@ -1,0 +1,33 @@
+-- Tables that stay the ones that were lent, and their lengths. Assumes nothing.
+use Rattle.std.proofs.Common.{List, refl, ◌∙◌}
+use Rattle.std.specs.Borrow.{MutBor}
+use Rattle.tables.specs.declared.LentTables.{LentTables}
+use Rattle.tables.specs.Lent.{SameSlice, SameSlices, mesh_at}
+use Rattle.rounds.proofs.Turns.{SameLengths}
+
+one : {A : Type 0} (s : MutBor (List A)) → SameSlice s s
+one s = record { name = refl; long = refl }
+
+pub same_lent : (t : LentTables) → SameSlices t t
+same_lent t = record { vertices = one t.vertices; hexes = one t.hexes; quads = one t.quads; segments = one t.segments; points = one t.points }
+
+both : {A : Type 0} {a b c : MutBor (List A)} → SameSlice a b → SameSlice b c → SameSlice a c
+both p q = record { name = q.name ∙ p.name; long = q.long ∙ p.long }
+
+pub still_lent : {a b c : LentTables} → SameSlices a b → SameSlices b c → SameSlices a c
+still_lent p q = record {
+  vertices = both p.vertices q.vertices;
+  hexes = both p.hexes q.hexes;
+  quads = both p.quads q.quads;
+  segments = both p.segments q.segments;
+  points = both p.points q.points;
+}
+
+pub lengths_kept : {a b : LentTables} → SameSlices a b → SameLengths (mesh_at a) (mesh_at b)
+lengths_kept p = record {
+  vertices = p.vertices.long;
+  hexes = p.hexes.long;
+  quads = p.quads.long;
+  segments = p.segments.long;
+  points = p.points.long;
+}

@@ -1,0 +1,45 @@
+-- Each table has room and lies in the file (`storable`), and the five are the stored mesh (`stored_tables`).
+use Rattle.std.proofs.Common.{◌≡◌, false, subst, ◌∙◌, arith}
+use Rattle.rules.specs.declared.Counts.{Counts}
+use Rattle.rules.specs.Mesh.{mesh}
+use Rattle.rules.specs.Counts.{counts_of, out_of_range}
+use Rattle.tables.specs.Lent.{mesh_at}
+use Rattle.stored.proofs.Acceptance.{reading_accepted}
+use Rattle.stored.proofs.Storing.{storable, stored_tables}
+use Rattle.stored.proofs.reading.store_tables.Goals as goal
+
+pub layout_of-at-requires : goal.layout_of-at-requires
+layout_of-at-requires c =
+    let a = c.args in
+    subst (λ (d : Counts). out_of_range d ≡ false) c.requires.0 (reading_accepted a.s.now (counts_of (mesh_at a.lent.now)) c.requires.1).0.head.range
+
+pub get_table-requires-clause-room : goal.get_table-requires-clause-room
+get_table-requires-clause-room c =
+    let k = storable c.args.s.now c.args.c _ (mesh_at c.args.lent.now) c.requires.0 c.requires.1 c.layout_of-at.ensures in
+    omega (arith, k.body.numbers, k.body.small.width, k.long, k.room.vertices)
+
+pub get_table-requires-2-clause-room : goal.get_table-requires-2-clause-room
+get_table-requires-2-clause-room c =
+    let k = storable c.args.s.now c.args.c _ (mesh_at c.args.lent.now) c.requires.0 c.requires.1 c.layout_of-at.ensures in
+    omega (arith, k.body.numbers, k.body.small.width, k.long, k.room.hexes)
+
+pub get_table-requires-3-clause-room : goal.get_table-requires-3-clause-room
+get_table-requires-3-clause-room c =
+    let k = storable c.args.s.now c.args.c _ (mesh_at c.args.lent.now) c.requires.0 c.requires.1 c.layout_of-at.ensures in
+    omega (arith, k.body.numbers, k.body.small.width, k.long, k.room.quads)
+
+pub get_table-requires-4-clause-room : goal.get_table-requires-4-clause-room
+get_table-requires-4-clause-room c =
+    let k = storable c.args.s.now c.args.c _ (mesh_at c.args.lent.now) c.requires.0 c.requires.1 c.layout_of-at.ensures in
+    omega (arith, k.body.numbers, k.body.small.width, k.long, k.room.segments)
+
+pub get_table-requires-5-clause-room : goal.get_table-requires-5-clause-room
+get_table-requires-5-clause-room c =
+    let k = storable c.args.s.now c.args.c _ (mesh_at c.args.lent.now) c.requires.0 c.requires.1 c.layout_of-at.ensures in
+    omega (arith, k.body.numbers, k.body.small.width, k.long, k.room.points)
+
+pub returns-clause-after : goal.returns-clause-after
+returns-clause-after c =
+    let k = storable c.args.s.now c.args.c _ (mesh_at c.args.lent.now) c.requires.0 c.requires.1 c.layout_of-at.ensures in
+    (λ i. mesh (c.get_table.ensures i) (c.get_table-2.ensures i) (c.get_table-3.ensures i) (c.get_table-4.ensures i) (c.get_table-5.ensures i))
+    ∙ stored_tables c.args.s.now c.args.c c.layout_of-at.result (mesh_at c.args.lent.now) k.body
