@@ -37,6 +37,10 @@ each_sum t s (suc (suc (suc a))) h = absurd (omega arith)
 pub valence_fits : (t : Tallies) (v : ℕ) → Spare 1 t → v < length t.ranks.now → get_or (get_or t.ranks.now v []) 1 0 + 1 < 2 ^ 32
 valence_fits t v s h = omega (arith, (s.room 0 v (lit< tt) h).few)
 
+-- a sum with one more cell fits
+pub sum_fits : (t : Tallies) (v a s : ℕ) → Spare 1 t → a < 3 → v < length t.ranks.now → s < 2 ^ 41 → get_or (get_or t.totals.now v []) a 0 + s < 2 ^ 64
+sum_fits t v a s r h l k = let q = r.room a v h l in omega (arith, q.few, q.small)
+
 module _ (t : Tallies) (v d : ℕ) (sums : List ℕ) (small : (a : ℕ) → a < 3 → get_or sums a 0 < 2 ^ 41) where
   abbrev rank : List ℕ
   rank = get_or t.ranks.now v []

@@ -10,14 +10,6 @@ ghost use Rattle.checks.specs.Marked.{Marked};
 
 use tables::MeshTables;
 
-// How many vertices the next window has, where so many are left and there is room for so many.
-pub fn window(left: usize, room: usize) -> usize
-    requires { (0 < left) × (0 < room) }
-    ensures { (0 < result) × (result ≤ left) × (result ≤ room) }
-{
-    left.min(room)
-}
-
 // Marks by x each corner of a table that is in the window.
 pub fn mark(w: &mut [u32], first: usize, x: u32, table: &[u32])
     ensures { Marked first x w.old w.new table.now }

@@ -87,14 +87,14 @@ module _ (m : Mesh) (w : partial_entry m ≡ false) (h : repeated_corner (topolo
       decides (holding v t.points) (holding v t.segments) (holding v t.quads) (holding v t.hexes)
       ∙ rw (held v point, held v segment, held v quad, held v hex)
 
-  pub irregular_count_is : irregular_count (topology m) ≡ length (keep (irregular_in m) (up_from 0 (length m.vertices / 3)))
+  pub count_by : irregular_count (topology m) ≡ length (keep (irregular_in m) (up_from 0 (length m.vertices / 3)))
   unfolding irregular_count topology
-  irregular_count_is = ap length (keep_same (irregular (topology m)) (irregular_in m) (up_from 0 (length m.vertices / 3)) (λ v i. irregular_by_lem v))
+  count_by = ap length (keep_same (irregular (topology m)) (irregular_in m) (up_from 0 (length m.vertices / 3)) (λ v i. irregular_by_lem v))
 
 -- of a mesh that passes the checks
 module _ (m : Mesh) (a : Accepted m) where
   pub accepted_count : irregular_count (topology m) ≡ length (keep (irregular_in m) (up_from 0 (length m.vertices / 3)))
-  accepted_count = irregular_count_is m a.entire (no_repeated_corner (topology m) a.sound)
+  accepted_count = count_by m a.entire (no_repeated_corner (topology m) a.sound)
 
   -- its tables are short
   pub few_corners : corner_count m < 2 ^ 32

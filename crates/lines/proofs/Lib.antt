@@ -11,5 +11,3 @@ pub mod Held
 pub mod Longest
 -- Listed: what is listed of a refusal and of a finished mesh.
 pub mod Listed
--- Library: the library's words in the rules': `contains`, `chunks_exact`.
-pub mod Library

@@ -5,7 +5,7 @@ use Rattle.std.specs.Slice.Iter.{chunks_exact_rest, chunks_exact_size}
 use Rattle.std.proofs.lemmas.Iterator.Consumers.{YieldsList-from_filter, count_from_yields_List}
 use Rattle.rules.specs.Lists.{cut, has}
 use Rattle.rules.specs.Averaging.{holding}
-use Rattle.lines.proofs.Library.{YieldsList-from_cut, has_contains}
+use Rattle.checks.proofs.Library.{YieldsList-from_cut, has_contains}
 use Rattle.lines.proofs.Held.{filter_keep}
 use Rattle.lines.proofs.ranks.count_holding.Goals as goal
 

@@ -4,7 +4,7 @@ use Rattle.std.proofs.lemmas.Iterator.Consumers.{YieldsList-turn, YieldsList-end
 use Rattle.std.proofs.lemmas.List.{length_push}
 use Rattle.rules.specs.Lists.{cut}
 use Rattle.rules.specs.Listing.{cell_lines}
-use Rattle.lines.proofs.Library.{YieldsList-from_cut}
+use Rattle.checks.proofs.Library.{YieldsList-from_cut}
 use Rattle.lines.proofs.Runs.{print_start, print_room, print_turn, print_end}
 use Rattle.lines.proofs.Fields.{cell_line}
 use Rattle.lines.specs.Kinds.{corners_of, letter_of}
