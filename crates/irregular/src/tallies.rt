@@ -1,5 +1,6 @@
 // The irregular vertices, in windows: as many at a time as there are pairs of lent numbers. The numbers at place v tell of vertex first + v:
 // that of `ranks` how far its rank is below 3, so that it is 0 before any mark, and that of `valences` its valence.
+// They stay two slices: a struct that lends both would have to promise, call by call, that it still lends the same ones.
 ghost use Rattle.std.specs.Prelude.{◌≡◌, ℕ, ◌+◌, ◌/◌, ◌^◌, ◌≤◌, ◌<◌, length, get_or, count_by, All};
 ghost use Rattle.std.specs.List.{zip};
 ghost use Rattle.rules.specs.Lists.{keep, up_from};

@@ -6,12 +6,11 @@ ghost use Rattle.std.specs.Prelude.{◌≤◌, length, IfOk};
 
 use std::io::{self, Input, Print, Read};
 
-// Reads until the input ends or the buffer is full: how many bytes it read.
+// Reads until the input ends or the buffer is full: how many bytes it read. A turn reads as much as the reader gives: no `for` can count them.
 fn read_full<R: Read>(reader: &mut R, buffer: &mut [u8]) -> io::Result<usize>
     ensures { IfOk result (λ n. n ≤ length buffer.old) }
 {
     let mut n = 0;
-    // How much a read gives is not known before it, so this is no range.
     while n < buffer.len() {
         let more = reader.read(&mut buffer[n..])?;
         if more == 0 {
