@@ -3,6 +3,7 @@ ghost use Rattle.std.specs.Prelude.{◌≡◌, [], ℕ, ◌+◌, ◌*◌, ◌≤
 ghost use Rattle.integers.specs.Range.{InRange};
 ghost use Rattle.averaging.specs.Pass.{biased, gathered_at, corner_coordinate, weighed, Known, Near};
 
+// A coordinate, counted from the least one: a shift, which no `From` says.
 fn bias(x: i32) -> u64
     requires { InRange x }
     ensures { (result ≡ biased x) × (result < 2 ^ 30) }
@@ -10,6 +11,7 @@ fn bias(x: i32) -> u64
     (i64::from(x) + 536_870_912) as u64
 }
 
+// And back.
 pub fn unbias(u: u64) -> i32
     requires { u < 2 ^ 30 }
     ensures { pos u ≡ result +ℤ pos (2 ^ 29) }

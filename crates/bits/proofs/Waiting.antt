@@ -90,7 +90,7 @@ pub record Putting (d₀ : List ℕ) (at w : ℕ) (T d : List ℕ) (p : Pending)
   -- once there is one, they are what the buffer and the waiting bits make
   pub some : 0 < i → settled d p ≡ put_all d₀ at (table_fields w (take i T))
 
--- no entry yet: p waits before bit `at` (`pend`)
+-- no entry yet: p waits before bit `at` (`Pending::before`)
 pub put_start : (d : List ℕ) (at w : ℕ) (T : List ℕ) (p : Pending) → end_of p ≡ at
     → ((k v : ℕ) → put_at (settled d p) at k v ≡ put_at d at k v) → Putting d at w T d p 0
 put_start d at w T p end next =
@@ -103,7 +103,7 @@ put_start d at w T p end next =
       some = λ h. absurd (omega arith);
     }
 
--- one entry more, put behind what waits (`put_next`)
+-- one entry more, put behind what waits (`Pending::put`)
 pub put_turn : {d₀ d e T : List ℕ} {at w i : ℕ} {p r : Pending} (v : ℕ) → Putting d₀ at w T d p i → i < length T → v ≡ get_or T i 0
     → end_of r ≡ end_of p + w → settled e r ≡ put_at (settled d p) (end_of p) w v → length e ≡ length d
     → Putting d₀ at w T e r (i + 1)

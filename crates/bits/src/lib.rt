@@ -91,7 +91,7 @@ pub fn put_field(d: &mut [u8], at: usize, k: u32, v: u32) -> usize
 
 // ---- a table: fields of one width
 
-// What a table holds: each entry stands in a file as a field.
+// What a table holds: each entry stands in a file as a field. `From` cannot say it: both types are the language's own.
 pub trait Entry: Copy {
     // The field of an entry.
     ghost field: { Self → ℕ };
@@ -168,7 +168,8 @@ impl Entry for i32 {
     ghost back = { of_field_to_field };
 }
 
-// Reads n entries of w bits from bit `at` on into the front of t.
+// Reads n entries of w bits from bit `at` on into the front of t. The whole of t is lent: of a part of a slice in a struct, only the length is
+// known afterwards.
 pub fn get_table<T: Entry>(s: &[u8], at: usize, w: u32, t: &mut [T], n: usize)
     requires room { (w ≤ 32) × (n ≤ length t.old) × (at + w * n ≤ 8 * length s.now) × (at + w * n ≤ 2 ^ 60) }
     requires fields { (v : ℕ) → v < 2 ^ w → T.IsField v }

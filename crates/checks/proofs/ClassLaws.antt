@@ -2,7 +2,7 @@
 use mathlib.Core.Path.{◌≡◌, refl, sym, ap, ◌∙◌}
 use mathlib.Core.Bool.{Bool, true, false, cond}
 use mathlib.Core.List.{List, [], ◌∷◌, map}
-use Prim.Native.Nat.{ℕ, suc, ◌+◌, ◌*◌, ◌%◌, ◌^◌, ◌<◌}
+use Prim.Native.Nat.{ℕ, suc, ◌+◌, ◌*◌, ◌%◌, ◌^◌, ◌<◌, ◌≤◌}
 use native.Mathlib.Nat.{mod-lt, div-lt_iff_lt-mul, mul_comm, mul-lt-mul_of_pos_right}
 use native.Mathlib.Omega.{arith}
 use lib.Dec.{leb, ltb, eqb}
@@ -13,7 +13,16 @@ use Rattle.lists.proofs.Membership.{in_keep, keep_in}
 use Rattle.lists.proofs.Once.{once_keep, length_same}
 use Rattle.lists.proofs.Distinct.{in_distinct, distinct_in, once_distinct}
 use Rattle.checks.specs.declared.classes.Class.{Class}
-use Rattle.checks.specs.Classes.{squared, total, class_of, in_class}
+use Rattle.checks.specs.declared.classes.Walk.{Walk}
+use Rattle.checks.specs.declared.classes.Walk.TheVariants.{Edges, Faces, Cells}
+use Rattle.checks.specs.Classes.{Size, squared, total, class_of, in_class}
+
+-- ---- what is walked has few corners
+
+pub few_corners : (of : Walk) (k : ℕ) → Size of k → k ≤ 8
+few_corners (Edges mesh) k h = omega arith
+few_corners (Faces mesh) k h = omega arith
+few_corners (Cells cells) k h = h.1
 
 -- ---- the class is that of the corner set
 

@@ -21,7 +21,7 @@ pub fn has_duplicate<const C: usize>(words: &mut [u32], cells: &[u32]) -> bool
 {
     match classes::find::<C>(words, Walk::Cells(cells), 2) {
         Ok(n) => n != cells.len() / C,
-        Err(_) => pairwise::has_duplicate(C, cells),
+        Err(_) => pairwise::has_duplicate::<C>(cells),
     }
 }
 

@@ -26,16 +26,16 @@ struct Class {
     count: usize,
 }
 
-// How many edges, faces or cells are walked, each counted as often as it is met; a cell has k corners.
+// How many edges, faces or cells are walked, each counted as often as it is met; they have C corners each.
 #[tactic(auto, using(lists::proofs::Tables::length_cut))]
-fn count_of(of: Walk, k: usize) -> usize
-    requires { Size of k }
-    ensures { result ≡ length (walked of.entry k) }
+fn count_of<const C: usize>(of: Walk) -> usize
+    requires { Size of C }
+    ensures { result ≡ length (walked of.entry C) }
 {
     match of {
         Walk::Edges(mesh) => parts::part_count(Part::Edge, mesh),
         Walk::Faces(mesh) => parts::part_count(Part::Face, mesh),
-        Walk::Cells(table) => table.len() / k,
+        Walk::Cells(table) => table.len() / C,
     }
 }
 
@@ -160,8 +160,8 @@ fn sweep_all<const C: usize>(
 
 // Goes over all of them, of C corners each, in `fewest` classes or more, up to 1024, until each class fits the memory. A class that does not
 // fit is given up before its end: that costs less than one class too many.
+#[tactic(auto, using(crate::proofs::ClassLaws::few_corners))]
 pub fn find<const C: usize>(w: &mut [u32], of: Walk, fewest: usize) -> Result<usize, Stopped>
-    requires few { C ≤ 8 }
     requires size { Size of C }
     requires fewest_nonzero { 0 < fewest }
     ensures { Found of.entry (walked of.entry C) result }
@@ -169,7 +169,7 @@ pub fn find<const C: usize>(w: &mut [u32], of: Walk, fewest: usize) -> Result<us
     if w.is_empty() {
         return Err(Stopped::Full);
     }
-    let count = count_of(of, C);
+    let count = count_of::<C>(of);
     let mut classes = fewest;
     // The steps grow, so this is no range.
     while classes <= 1024 {

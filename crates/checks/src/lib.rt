@@ -71,7 +71,7 @@ fn has_duplicate_cell(words: &mut [u32], mesh: PlainMesh) -> bool
 }
 
 // 5 to 8 in order, of a mesh that passes 1 to 4, with these numbers; the answer is how many faces it has, since check 7 meets them all.
-#[tactic(auto, using(crate::proofs::Passed::tables_pass, crate::proofs::Passed::cells_decide))]
+#[tactic(auto, using(crate::proofs::Passed::tables_pass, crate::proofs::Passed::cells_decide, crate::proofs::ByKind::isolated_tables))]
 fn check_cells_with(words: &mut [u32], mesh: MeshTables) -> Result<usize, Refusal>
     requires words_nonzero { 0 < length words.old }
     requires tables_pass { table_checks (mesh_in mesh) 0 ≡ 0 }
@@ -86,7 +86,8 @@ fn check_cells_with(words: &mut [u32], mesh: MeshTables) -> Result<usize, Refusa
     }
     // 7, mismatched face (rule 7.7).
     let faces = by_classes::check_faces(words, plain)?;
-    if marks::has_isolated_vertex(words, mesh) {
+    // 8, isolated vertex (rule 7.8).
+    if marks::has_isolated_vertex(words, mesh.vertices.len() / 3, mesh) {
         return Err(Refusal::IsolatedVertex);
     }
     Ok(faces)

@@ -1,9 +1,7 @@
 // Check 8 by marks. The vertices are looked at in windows, as many at a time as there are lent numbers: each corner in the window is marked,
 // and a vertex without a mark is in no cell. The number at place v of a window is that of vertex first + v.
-ghost use Rattle.std.specs.Prelude.{◌≡◌, false, ◌≤◌, ◌<◌, eqb, length};
+ghost use Rattle.std.specs.Prelude.{◌≡◌, ◌≤◌, ◌<◌, eqb, length};
 ghost use Rattle.rules.specs.Lists.{any, up_from};
-ghost use Rattle.rules.specs.Mesh.{topology};
-ghost use Rattle.rules.specs.Refusals.{partial_entry, isolated_vertex};
 ghost use Rattle.tables.specs.Lent.{mesh_in};
 ghost use Rattle.checks.specs.Held.{isolated_in};
 ghost use Rattle.checks.specs.Marked.{Marked};
@@ -41,13 +39,11 @@ fn has_isolated_in_window(w: &mut [u32], first: usize, mesh: MeshTables) -> bool
     has_zero(w)
 }
 
-// 8, isolated vertex (rule 7.8).
-pub fn has_isolated_vertex(w: &mut [u32], mesh: MeshTables) -> bool
-    requires w_nonzero { 0 < length w.old }
-    requires whole_tables { partial_entry (mesh_in mesh) ≡ false }
-    ensures { result ≡ isolated_vertex (topology (mesh_in mesh.entry)) }
+// Whether one of the vertices below n is in no cell: of all of them, that is check 8 (rule 7.8).
+pub fn has_isolated_vertex(w: &mut [u32], n: usize, mesh: MeshTables) -> bool
+    requires { 0 < length w.old }
+    ensures { result ≡ any (isolated_in (mesh_in mesh.entry)) (up_from 0 n) }
 {
-    let n = mesh.vertices.len() / 3;
     let room = w.len();
     for first in (0..n).step_by(room) {
         let size = room.min(n - first);

@@ -13,21 +13,21 @@ use crate::{cells, faces, parts};
 
 // Whether each corner of the one is a corner of the other. Of two cells of one size that name no corner twice it tells whether they have
 // one corner set.
-fn is_within(a: &[u32], b: &[u32]) -> bool
+pub fn is_within(a: &[u32], b: &[u32]) -> bool
     ensures { result ≡ within a.now b.now }
 {
     a.iter().all(|corner| cells::has_number(*corner, b))
 }
 
-// Whether two cells of a table have one corner set; a cell has k corners.
-pub fn has_duplicate(k: usize, table: &[u32]) -> bool
-    requires k_nonzero { 0 < k }
-    requires no_repeated_corner { any (repeats eqb) (cut k table.now) ≡ false }
-    ensures { result ≡ repeats same (map key_of (cut k table.now)) }
+// Whether two cells of a table, of C corners each, have one corner set.
+pub fn has_duplicate<const C: usize>(table: &[u32]) -> bool
+    requires k_nonzero { 0 < C }
+    requires no_repeated_corner { any (repeats eqb) (cut C table.now) ≡ false }
+    ensures { result ≡ repeats same (map key_of (cut C table.now)) }
 {
-    for c in 0..table.len() / k {
-        let (cell, behind) = table[k * c..].split_at(k);
-        if behind.chunks_exact(k).any(|other| is_within(cell, other)) {
+    for c in 0..table.len() / C {
+        let (cell, behind) = table[C * c..].split_at(C);
+        if behind.chunks_exact(C).any(|other| is_within(cell, other)) {
             return true;
         }
     }

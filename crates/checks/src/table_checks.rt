@@ -42,7 +42,7 @@ pub fn is_outside(z: i32) -> bool
     z < -536870912 || 536870911 < z
 }
 
-// 3. The loop goes to the end whatever it finds: so the compiler can take many coordinates at a time.
+// 3. It asks for the coordinates alone, and goes to the end whatever it finds: so the compiler can take many at a time.
 pub fn has_coordinate_out_of_range(xs: &[i32]) -> bool
     ensures { result ≡ any outside xs.now }
 {

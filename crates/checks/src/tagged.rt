@@ -41,7 +41,7 @@ impl<'a> TaggedKeys<'a> {
     }
 
     // Meets a key with a tag.
-    fn meet<const C: usize>(&mut self, key: [u32; C], tag: u32) -> Result<(), Stopped>
+    pub fn meet<const C: usize>(&mut self, key: [u32; C], tag: u32) -> Result<(), Stopped>
         requires { Holds C self.old }
         ensures same_table { SameTable self.old self.new }
         ensures met { KeyMet C self.old self.new key.entry tag result }

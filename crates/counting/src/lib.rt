@@ -38,7 +38,7 @@ pub fn sizes_after(rounds: u32, s: Sizes) -> Sizes
     now
 }
 
-// Whether some count is outside its range: check 2 of a mesh, check 10 of the finished one.
+// Whether some count is outside its range: check 2 of counts in a header, check 10 of the finished mesh.
 #[tactic(auto, unfolding(rules::specs::Counts::out_of_range, rules::specs::Counts::counts_in))]
 pub fn out_of_range(s: Sizes) -> bool
     ensures { result ≡ out_of_range (counts_in s) }

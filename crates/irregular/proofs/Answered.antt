@@ -9,9 +9,9 @@ use Rattle.rules.specs.EntryPoints.{count_answer, irregular_count, irregular_ans
 use Rattle.rules.proofs.Named.{refused_count}
 
 module _ (m : Mesh) where
-  pub refused_answer : (r : Refusal) → number_of r ≡ mesh_checks m 0 → count_answer_of (Err r) ≡ irregular_answer m
+  pub irregular_refused : (r : Refusal) → number_of r ≡ mesh_checks m 0 → count_answer_of (Err r) ≡ irregular_answer m
   unfolding irregular_answer
-  refused_answer r e = sym (refused_count r (irregular_count (topology m))) ∙ ap (λ (n : ℕ). count_answer n (irregular_count (topology m))) e
+  irregular_refused r e = sym (refused_count r (irregular_count (topology m))) ∙ ap (λ (n : ℕ). count_answer n (irregular_count (topology m))) e
 
   pub counted_answer : mesh_checks m 0 ≡ 0 → (n : ℕ) → n ≡ irregular_count (topology m) → count_answer_of (Ok n) ≡ irregular_answer m
   unfolding irregular_answer

@@ -18,10 +18,14 @@ use fixed::refine_stored;
 use rules::Refusal;
 use tables::LentTables;
 
-mod kinds;
-mod ranks;
-mod rows;
-mod text;
+// The kinds of cells and their letters.
+pub mod kinds;
+// The rank and the valence of a vertex, by its corners in the tables.
+pub mod ranks;
+// A line for each vertex and each cell.
+pub mod rows;
+// The buffer that the lines are put into.
+pub mod text;
 
 // How many bytes the input may have.
 const LIMIT: usize = 16385;

@@ -1,4 +1,5 @@
-// The entry points over tables, for C: refining, the counts in a header, reading, writing, the irregular count, the millimetre report.
+// The entry points over tables, for C: refining, the counts in a header, reading, writing, the irregular count, the millimetre report. Their
+// arguments are C's: slices one by one.
 ghost use Rattle.std.specs.Prelude.{◌≡◌, true, suc, ◌*◌, length, take, replicate};
 ghost use Rattle.rules.specs.Mesh.{mesh};
 ghost use Rattle.rules.specs.Accuracy.{Property3};

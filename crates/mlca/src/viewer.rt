@@ -14,7 +14,7 @@ use rules::Refusal;
 use stored::{read, write};
 use tables::LentTables;
 
-// A count or a refusal as one number.
+// A count or a refusal as one number, as C reads it.
 fn signed(found: Result<u64, Refusal>) -> i64
     requires { IfOk found (λ count. count < 2 ^ 63) }
     ensures { let answer = count_answer_of found in result ≡ signed answer.refusal answer.count }

@@ -69,8 +69,8 @@ pub fn place_of(parts: Parts, part: usize, corner: usize) -> usize
     }
 }
 
-// The places of the corners of a cell's parts, c for each part, part after part; zeros behind them. They are listed once for a whole
-// table of cells: what is done for each cell then reads them in a row.
+// The places of the corners of a cell's parts, c for each part, part after part; zeros behind them, as there is no heap and the most are 24.
+// They are listed once for a whole table of cells: what is done for each cell then reads them in a row.
 #[tactic(auto, using(crate::proofs::Places::few_listed, crate::proofs::Places::length_listed))]
 pub fn listed(parts: Parts, c: usize) -> [u8; 24]
     requires { c ≡ part_corners parts }

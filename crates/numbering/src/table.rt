@@ -1,5 +1,6 @@
 // A hash table with chains in a lent slice: the heads of room + 1 slots, then the entries, each a link and a key. The words, the room and the
-// count of keys are passed side by side: in a struct behind `&mut` they are loaded anew after each store to the words (4 % more steps).
+// count of keys are passed side by side: in a struct behind `&mut` a compiler loads them anew after each store to the words (in a model in C,
+// 4 % more instructions).
 ghost use Rattle.std.specs.Prelude.{◌≡◌, ◌↔◌, IsTrue, ◌+◌, ◌^◌, ◌≤◌, ◌<◌, length, replicate};
 ghost use Rattle.std.proofs.lemmas.List.Edits.{sets};
 ghost use Rattle.rules.specs.Lists.{index_of, overwritten};

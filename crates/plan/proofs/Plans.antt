@@ -83,6 +83,6 @@ module _ {m : Mesh} {rounds : ℕ} {p : Growth} (e : Sized m rounds p) where
   unfolding finished_answer
   plan_answer c f = ap (counts_answer 0) (f ∙ plan_counts) ∙ sym (ap (λ (n : ℕ). counts_answer n (finished_counts rounds (topology m))) e.passes)
 
-pub refused_answer : (m : Mesh) (rounds : ℕ) (r : Refusal) → Planned m rounds (Err r) → counts_answer_of (Err r) ≡ finished_answer m rounds
+pub plan_refused : (m : Mesh) (rounds : ℕ) (r : Refusal) → Planned m rounds (Err r) → counts_answer_of (Err r) ≡ finished_answer m rounds
 unfolding finished_answer
-refused_answer m rounds r e = sym (refused_counts r (finished_counts rounds (topology m))) ∙ ap (λ (n : ℕ). counts_answer n (finished_counts rounds (topology m))) e
+plan_refused m rounds r e = sym (refused_counts r (finished_counts rounds (topology m))) ∙ ap (λ (n : ℕ). counts_answer n (finished_counts rounds (topology m))) e

@@ -2,7 +2,7 @@
 use mathlib.Core.Path.{◌≡◌, refl, sym, ap, subst, ◌∙◌}
 use mathlib.Core.Bool.{Bool, true, false, ◌||◌}
 use mathlib.Core.List.{List}
-use Prim.Native.Nat.{ℕ, ◌*◌, ◌/◌, ◌≤◌, ◌<◌}
+use Prim.Native.Nat.{ℕ, zero, suc, ◌*◌, ◌/◌, ◌≤◌, ◌<◌}
 use native.Mathlib.Nat.{div-lt_iff_lt-mul, mul_comm}
 use native.Mathlib.Omega.{arith}
 use borrow.Author.Tests.{ltb-true, ltb-false}
@@ -94,36 +94,39 @@ module _ (m : Mesh) (rounds : ℕ) (out work : Mesh) (words longs : List ℕ) (p
 pub last_check : {n : ℕ} {b : Bool} (v : Bool) → n ≡ 0 → b ≡ v → check v 11 0 ≡ and_then n (check b 11 0)
 last_check v e f = rw (e, f)
 
-module _ (m : Mesh) (rounds : ℕ) (out work : Mesh) (words longs : List ℕ) where
-  -- check 11 of counts
-  short_check : Counts → ℕ
-  short_check c = check (short_for_refining (lent_by out work words longs) c) 11 0
+same_later : (n a b : ℕ) → (n ≡ 0 → a ≡ b) → and_then n a ≡ and_then n b
+same_later zero a b h = h refl
+same_later (suc n) a b h = refl
 
-  by_plan : (n : ℕ) → n ≡ round_checks m rounds 0 → refining_refusal m rounds (lent_by out work words longs) ≡ and_then n (short_check (finished_counts rounds (topology m)))
-  unfolding refining_refusal short_check
-  by_plan n e =
-      let later = short_check (finished_counts rounds (topology m)) in
-      rounds_then m rounds later ∙ ap (λ (k : ℕ). and_then k later) (sym e)
+module _ (m : Mesh) (rounds : ℕ) (out work : Mesh) (words longs : List ℕ) where
+  -- of counts that are the finished ones where checks 1 to 10 pass
+  pub decided : (n : ℕ) (c : Counts) → n ≡ round_checks m rounds 0 → (n ≡ 0 → c ≡ finished_counts rounds (topology m))
+      → refining_refusal m rounds (lent_by out work words longs) ≡ and_then n (check (short_for_refining (lent_by out work words longs) c) 11 0)
+  unfolding refining_refusal
+  decided n c e f =
+      let short = λ (c : Counts). check (short_for_refining (lent_by out work words longs) c) 11 0 in
+      rounds_then m rounds (short (finished_counts rounds (topology m)))
+      ∙ ap (λ (k : ℕ). and_then k (short (finished_counts rounds (topology m)))) (sym e)
+      ∙ same_later n _ _ (λ z. ap short (sym (f z)))
 
   -- a refusal of checks 1 to 10
   pub refused_by_plan : (r : Refusal) → number_of r ≡ round_checks m rounds 0 → number_of r ≡ refining_refusal m rounds (lent_by out work words longs)
   refused_by_plan r e =
-      first_refusal (number_of r) _ (λ z. let s = number_is_suc r in omega (arith, s.1, z)) ∙ sym (by_plan (number_of r) e)
+      first_refusal (number_of r) _ (λ z. let s = number_is_suc r in omega (arith, s.1, z)) ∙ sym (decided (number_of r) (finished_counts rounds (topology m)) e (λ z. refl))
 
   module _ {p : Growth} (d : Sized m rounds p) (b : Bool) (e : b ≡ short_for_refining (lent_by out work words longs) (counts_in p.finished)) where
     tested : b ≡ short_for_refining (lent_by out work words longs) (finished_counts rounds (topology m))
     tested = e ∙ ap (short_for_refining (lent_by out work words longs)) (plan_counts d)
 
     -- check 11 is the refusal, or there is none
-    decided : refining_refusal m rounds (lent_by out work words longs) ≡ check b 11 0
-    unfolding short_check
-    decided = by_plan 0 (sym d.passes) ∙ ap (λ (v : Bool). check v 11 0) (sym tested)
+    last_decides : refining_refusal m rounds (lent_by out work words longs) ≡ check b 11 0
+    last_decides = decided 0 (counts_in p.finished) (sym d.passes) (λ z. plan_counts d) ∙ ap (λ (v : Bool). check v 11 0) (sym e)
 
     pub refused_as_short : b ≡ true → 11 ≡ refining_refusal m rounds (lent_by out work words longs)
-    refused_as_short h = last_check {n = 0} true refl h ∙ sym decided
+    refused_as_short h = last_check {n = 0} true refl h ∙ sym last_decides
 
     pub refused_not : b ≡ false → 0 ≡ refining_refusal m rounds (lent_by out work words longs)
-    refused_not h = last_check {n = 0} false refl h ∙ sym decided
+    refused_not h = last_check {n = 0} false refl h ∙ sym last_decides
 
     pub decided_ready : b ≡ false → ReadyFor rounds m p.start out work words longs
     decided_ready h = lent_ready m rounds out work words longs (plan_passed d) (sym tested ∙ h) p.start d.start
@@ -140,9 +143,9 @@ module _ (m : Mesh) (rounds : ℕ) (out work : Mesh) (words longs : List ℕ) wh
 
   -- what is answered and written where the call is refused
   module _ (r : Refusal) (e : number_of r ≡ refining_refusal m rounds (lent_by out work words longs)) where
-    pub refused_answer : counts_answer_of (Err r) ≡ refining_answer m rounds out work words longs
+    pub decided_refused : counts_answer_of (Err r) ≡ refining_answer m rounds out work words longs
     unfolding refining_answer
-    refused_answer =
+    decided_refused =
         sym (refused_counts r (finished_counts rounds (topology m)))
         ∙ ap (λ (k : ℕ). counts_answer k (finished_counts rounds (topology m))) e
 

@@ -44,7 +44,7 @@ pub enum Refusal {
     NonzeroPadding,
 }
 
-// What refining and reading answer: the refusal's number, 0 for none, and the counts.
+// What refining and reading answer: the refusal's number, 0 for none, and the counts. A struct, as are the next: C has no `Result`.
 #[repr(C)]
 #[derive(Clone, Copy)]
 pub struct CountsAnswer {

@@ -24,6 +24,7 @@ impl CellKind {
         }
     }
 
+    // The parts that are its edges, and below its faces: two lists of names, not one rule.
     pub fn edges(self) -> Parts
         ensures { result ≡ edges_of self }
     {
@@ -57,7 +58,8 @@ impl CellKind {
         }
     }
 
-    // The table of the smallest parts, row after row; zeros behind it. It is listed once for a whole table of cells.
+    // The table of the smallest parts, row after row; zeros behind it, as there is no heap and the longest has 64. It is listed once for a
+    // whole table of cells.
     pub fn smallest_parts(self) -> [u8; 64]
         ensures { take (length (smallest_listed self)) result ≡ smallest_listed self }
     {

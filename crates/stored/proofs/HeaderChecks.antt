@@ -14,7 +14,7 @@ use Rattle.rules.specs.Counts.{out_of_range}
 use Rattle.rules.specs.EntryPoints.{counts_answer}
 use Rattle.rules.specs.Refusals.{check}
 use Rattle.rules.specs.Bits.{field_at}
-use Rattle.rules.specs.StoredForm.{header_of, index_width, header_cut, unknown_form, wrong_width, header_answer}
+use Rattle.rules.specs.StoredForm.{header_of, index_width, header_cut, unknown_form, wrong_width, header_checks, header_answer}
 
 -- the counts that are read
 abbrev pub counts_read : List ℕ → Counts
@@ -38,20 +38,24 @@ unfolding header_answer header_cut
 header_short s h = rw (lt-ltb (length s) 13 h)
 
 -- of a header that is long enough, by its fields
-pub header_read : (s : List ℕ) → 13 ≤ length s
-    → header_answer s ≡ counts_answer (check (not (eqb (field_at s 0 4) 1)) 14 (check (out_of_range (counts_read s)) 2 0)) (counts_read s)
-unfolding header_answer header_cut unknown_form header_of
+pub header_read : (s : List ℕ) → 13 ≤ length s → header_checks s 0 ≡ check (not (eqb (field_at s 0 4) 1)) 14 (check (out_of_range (counts_read s)) 2 0)
+unfolding header_cut unknown_form header_of
 header_read s h = rw (le-ltb (length s) 13 h)
 
+answer_read : (s : List ℕ) → 13 ≤ length s
+    → header_answer s ≡ counts_answer (check (not (eqb (field_at s 0 4) 1)) 14 (check (out_of_range (counts_read s)) 2 0)) (counts_read s)
+unfolding header_answer header_of
+answer_read s h = ap (λ (n : ℕ). counts_answer n (counts_read s)) (header_read s h)
+
 pub header_form : (s : List ℕ) → 13 ≤ length s → (field_at s 0 4 ≡ 1 → ⊥) → counts_answer_of (Err UnknownForm) ≡ header_answer s
-header_form s h ne = rw (header_read s h, ne_eqb (field_at s 0 4) 1 ne)
+header_form s h ne = rw (answer_read s h, ne_eqb (field_at s 0 4) 1 ne)
 
 module _ (s : List ℕ) (h : 13 ≤ length s) (form : field_at s 0 4 ≡ 1) where
   pub header_range : out_of_range (counts_read s) ≡ true → counts_answer_of (Err CountOutOfRange) ≡ header_answer s
-  header_range e = rw (header_read s h, eq-eqb (field_at s 0 4) 1 form, e)
+  header_range e = rw (answer_read s h, eq-eqb (field_at s 0 4) 1 form, e)
 
   pub header_passed : out_of_range (counts_read s) ≡ false → counts_answer_of (Ok (counts_read s)) ≡ header_answer s
-  header_passed e = rw (header_read s h, eq-eqb (field_at s 0 4) 1 form, e)
+  header_passed e = rw (answer_read s h, eq-eqb (field_at s 0 4) 1 form, e)
 
 -- ---- 15
 

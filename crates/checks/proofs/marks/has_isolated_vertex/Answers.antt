@@ -1,8 +1,6 @@
 -- Window after window: each fits the numbers.
 use Rattle.std.proofs.Common.{◌≡◌, length, take, sym, ◌∙◌, arith}
 use lib.Seq.{length-take-le}
-use Rattle.tables.specs.Lent.{mesh_in}
-use Rattle.checks.proofs.ByKind.{isolated_tables}
 use Rattle.checks.proofs.Windows.{window_hit, window_miss, window_end}
 use Rattle.checks.proofs.marks.has_isolated_vertex.Goals as goal
 
@@ -11,7 +9,6 @@ returns-then-has_isolated_in_window c =
     let size : length (take c.min-size.result c.loop-first.w) ≡ c.min-size.result = length-take-le c.min-size.result c.loop-first.w (omega (arith, c.min-size.ensures)) in
     window_hit _ _ c.loop-first.invariant c.min-size.result (omega (arith, c.min-size.ensures))
     (sym (rw size at c.has_isolated_in_window.ensures) ∙ c.if-has_isolated_in_window.true)
-    ∙ sym (isolated_tables (mesh_in c.args.mesh) c.requires.whole_tables)
 
 pub loop-first-preserved : goal.loop-first-preserved
 loop-first-preserved c =
@@ -20,7 +17,7 @@ loop-first-preserved c =
     rw whole at (window_miss _ _ c.loop-first.invariant c.min-size.result (omega (arith, c.min-size.ensures)) (sym (rw size at c.has_isolated_in_window.ensures) ∙ c.if-has_isolated_in_window.false))
 
 pub returns : goal.returns
-returns c = window_end _ _ c.loop-first.invariant c.loop-first-test.false ∙ sym (isolated_tables (mesh_in c.args.mesh) c.requires.whole_tables)
+returns c = window_end _ _ c.loop-first.invariant c.loop-first-test.false
 
 pub returns-else-has_isolated_in_window : goal.returns-else-has_isolated_in_window
 returns-else-has_isolated_in_window c =
@@ -28,4 +25,3 @@ returns-else-has_isolated_in_window c =
     window_end _ _
     (window_miss _ _ c.loop-first.invariant c.min-size.result (omega (arith, c.min-size.ensures)) (sym (rw size at c.has_isolated_in_window.ensures) ∙ c.if-has_isolated_in_window.false))
     (omega (arith, c.min-size.ensures))
-    ∙ sym (isolated_tables (mesh_in c.args.mesh) c.requires.whole_tables)

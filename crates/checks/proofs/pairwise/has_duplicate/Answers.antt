@@ -8,8 +8,8 @@ use Rattle.checks.proofs.Slices.{rest_part}
 use Rattle.checks.proofs.pairwise.has_duplicate.Goals as goal
 
 pub returns-then-any : goal.returns-then-any
-returns-then-any c =
-    let k = c.args.k in
+returns-then-any g c =
+    let k = g.row.C in
     let table = c.args.table.now in
     let at = k * c.loop-c.c in
     let cell = c.split_at.result.0.now in
@@ -20,8 +20,8 @@ returns-then-any c =
     rw (t, c.if-any.true)
 
 pub loop-c-preserved : goal.loop-c-preserved
-loop-c-preserved c =
-    let k = c.args.k in
+loop-c-preserved g c =
+    let k = g.row.C in
     let table = c.args.table.now in
     let at = k * c.loop-c.c in
     let cell = c.split_at.result.0.now in
@@ -32,4 +32,4 @@ loop-c-preserved c =
     rw c.if-any.false at t
 
 pub returns : goal.returns
-returns c = sym (duplicate_end c.args.k c.args.table.now c.loop-c.c c.loop-c-test.false c.loop-c.invariant)
+returns g c = sym (duplicate_end g.row.C c.args.table.now c.loop-c.c c.loop-c-test.false c.loop-c.invariant)

@@ -4,4 +4,4 @@ use Rattle.rules.specs.Lists.{repeats, cut, key_of, same}
 use Rattle.checks.proofs.pairwise.has_duplicate.Given as goal
 
 abbrev pub invariant-loop-c : goal.invariant-loop-c
-invariant-loop-c l = repeats same (map key_of (cut l.k l.table)) ≡ repeats same (drop l.c (map key_of (cut l.k l.table)))
+invariant-loop-c g l = repeats same (map key_of (cut g.row.C l.table)) ≡ repeats same (drop l.c (map key_of (cut g.row.C l.table)))

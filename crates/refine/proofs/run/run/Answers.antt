@@ -5,13 +5,13 @@ use Rattle.rules.specs.declared.Refusal.TheVariants.{ShortBuffer}
 use Rattle.rules.specs.Counts.{counts_of}
 use Rattle.tables.specs.Lent.{mesh_at}
 use Rattle.plan.proofs.Plans.{plan_narrow}
-use Rattle.refine.proofs.Decided.{short_lent, refused_by_plan, refused_as_short, refused_answer, refused_output, decided_ready, decided_answer, decided_written, ready_same}
+use Rattle.refine.proofs.Decided.{short_lent, refused_by_plan, refused_as_short, decided_refused, refused_output, decided_ready, decided_answer, decided_written, ready_same}
 use Rattle.refine.proofs.run.run.Goals as goal
 
 pub returns-in_err-growth-clause-answer : goal.returns-in_err-growth-clause-answer
 returns-in_err-growth-clause-answer c =
     let p = err_from_is_err_and c.from_residual.result c.from_residual.ensures.1 in
-    rw (p.1, p.2) (refused_answer _ _ _ _ _ _ _ (refused_by_plan _ _ _ _ _ _ _ c.in_err-growth.ensures))
+    rw (p.1, p.2) (decided_refused _ _ _ _ _ _ _ (refused_by_plan _ _ _ _ _ _ _ c.in_err-growth.ensures))
 
 pub returns-in_err-growth-clause-output : goal.returns-in_err-growth-clause-output
 returns-in_err-growth-clause-output c = refused_output _ _ _ _ _ _ _ (refused_by_plan _ _ _ _ _ _ _ c.in_err-growth.ensures)
@@ -20,7 +20,7 @@ pub returns-then-is_short-clause-answer : goal.returns-then-is_short-clause-answ
 returns-then-is_short-clause-answer c =
     let a = c.args in
     let t = short_lent (mesh_at a.output.now) (mesh_at a.working.now) a.words.now a.longs.now _ _ c.in_ok-growth.growth.finished (c.places.ensures ∙ ap counts_of c.as_mesh.ensures) (c.places-2.ensures ∙ ap counts_of c.as_mesh-2.ensures) c.is_short.ensures in
-    refused_answer _ _ _ _ _ _ ShortBuffer (refused_as_short _ _ _ _ _ _ c.in_ok-growth.ensures _ t c.if-is_short.true)
+    decided_refused _ _ _ _ _ _ ShortBuffer (refused_as_short _ _ _ _ _ _ c.in_ok-growth.ensures _ t c.if-is_short.true)
 
 pub returns-then-is_short-clause-output : goal.returns-then-is_short-clause-output
 returns-then-is_short-clause-output c =
