@@ -45,7 +45,7 @@ pub fn split(
         edges,
         faces,
     };
-    let (edge_words, face_words) = words.split_at_mut(4 * edges + 1);
+    let (edge_words, face_words) = words.split_at_mut(table::size(edges, 2));
     table::prepare(edge_words, edges);
     table::prepare(face_words, faces);
     let none = Known { edges: 0, faces: 0 };
