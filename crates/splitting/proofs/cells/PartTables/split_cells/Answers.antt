@@ -6,7 +6,7 @@ use Rattle.numbering.proofs.Places.{list_size, list_lent, few_listed}
 use Rattle.splitting.specs.Kinds.{edges_of, faces_of}
 use Rattle.splitting.proofs.KindParts.{edge_corners, face_corners}
 use Rattle.splitting.proofs.Tables.{length_smallest}
-use Rattle.splitting.proofs.cells.split_cells.Goals as goal
+use Rattle.splitting.proofs.cells.PartTables.split_cells.Goals as goal
 
 -- an array that has the places of n parts of c corners at its front
 module _ (parts of : Parts) (c n : ℕ) (same : parts ≡ of) (p : c ≡ part_corners of) (q : n ≡ length (places_of parts)) where
@@ -36,23 +36,25 @@ slice_bounds-face_places-end c =
     let k = c.args.kind in
     omega (arith, size _ _ 4 _ c.faces-faces.ensures (face_corners k) c.count-faces_end.ensures, few_listed (faces_of k))
 
-pub slice_bounds-lists-end : goal.slice_bounds-lists-end
-slice_bounds-lists-end c =
+pub slice_bounds-given-end : goal.slice_bounds-given-end
+slice_bounds-given-end c =
     let k = c.args.kind in
     size _ _ 2 _ c.edges-edges.ensures (edge_corners k) c.count-edges_end.ensures
     ∙ sym (ap length (lent _ _ 2 _ c.edges-edges.ensures (edge_corners k) c.count-edges_end.ensures _ c.listed-edge_places.ensures))
 
-pub slice_bounds-lists-end-2 : goal.slice_bounds-lists-end-2
-slice_bounds-lists-end-2 c =
+pub slice_bounds-given-end-2 : goal.slice_bounds-given-end-2
+slice_bounds-given-end-2 c =
     let k = c.args.kind in
     size _ _ 4 _ c.faces-faces.ensures (face_corners k) c.count-faces_end.ensures
     ∙ sym (ap length (lent _ _ 4 _ c.faces-faces.ensures (face_corners k) c.count-faces_end.ensures _ c.listed-face_places.ensures))
 
-pub split_each-requires-clause-listed : goal.split_each-requires-clause-listed
-split_each-requires-clause-listed c =
-    let k = c.args.kind in
-    record {
-      edges_are = lent _ _ 2 _ c.edges-edges.ensures (edge_corners k) c.count-edges_end.ensures _ c.listed-edge_places.ensures;
-      faces_are = lent _ _ 4 _ c.faces-faces.ensures (face_corners k) c.count-faces_end.ensures _ c.listed-face_places.ensures;
-      smallest_are = rw (c.corner_count-corners.ensures, ← length_smallest k) c.smallest_parts-smallest.ensures;
-    }
+pub invariant_of-given-clause-edges_are : goal.invariant_of-given-clause-edges_are
+invariant_of-given-clause-edges_are c =
+    lent _ _ 2 _ c.edges-edges.ensures (edge_corners c.args.kind) c.count-edges_end.ensures _ c.listed-edge_places.ensures
+
+pub invariant_of-given-clause-faces_are : goal.invariant_of-given-clause-faces_are
+invariant_of-given-clause-faces_are c =
+    lent _ _ 4 _ c.faces-faces.ensures (face_corners c.args.kind) c.count-faces_end.ensures _ c.listed-face_places.ensures
+
+pub invariant_of-given-clause-smallest_are : goal.invariant_of-given-clause-smallest_are
+invariant_of-given-clause-smallest_are c = rw (c.corner_count-corners.ensures, ← length_smallest c.args.kind) c.smallest_parts-smallest.ensures
