@@ -1,26 +1,21 @@
 // How many distinct edges and corner sets there are, with whatever memory is lent.
 ghost use Rattle.std.specs.Prelude.{◌≡◌, ◌+◌, ◌*◌, ◌^◌, ◌≤◌, ◌<◌, length, MatchOption};
-ghost use Rattle.numbering.specs.Table.{Table};
+ghost use Rattle.numbering.specs.Table.{words_for, Table};
 ghost use Rattle.numbering.specs.Parts.{part_corners, table_keys};
 ghost use Rattle.numbering.specs.Count.{CountOf, edge_keys};
 
 use crate::parts::Parts;
 use crate::{parts, table};
 
-// For how many keys so many words have room, of which there is at least one, where a key takes `size` of them and all together one more; at
-// most `most`, and at most what a table holds.
-pub fn room_in(words: usize, size: usize, most: usize) -> usize
-    requires { (0 < words) × (0 < size) }
-    ensures { (size * result + 1 ≤ words) × (result + 1 < 2 ^ 32) }
+// For how many keys of c numbers so many words have room, of which there is at least one, with `beside` more words for each key; at most
+// `most`, and at most what a table holds. What `table::size` says, the other way round.
+pub fn room_in(words: usize, c: usize, beside: usize, most: usize) -> usize
+    requires some_word { 0 < words }
+    requires short { c + 2 + beside < 2 ^ 64 }
+    ensures fits { words_for c result + beside * result ≤ words }
+    ensures few { result + 1 < 2 ^ 32 }
 {
-    ((words - 1) / size).min(most).min(4294967294)
-}
-
-// How many parts the cells of a flat table have, each counted as often as it is met.
-fn parts_in(of: Parts, cells: &[u32]) -> usize
-    ensures { result ≡ length (table_keys of cells.now) }
-{
-    parts::count_of(of) * (cells.len() / parts::corners_of(of))
+    ((words - 1) / (c + 2 + beside)).min(most).min(4294967294)
 }
 
 // Makes an empty table of keys of c numbers with room for `most`, or for as many as the memory holds; the answer is its room, or `None` where
@@ -33,7 +28,7 @@ fn prepare_for(w: &mut [u32], c: usize, most: usize) -> Option<usize>
     if w.is_empty() {
         return None;
     }
-    let room = room_in(w.len(), c + 2, most);
+    let room = room_in(w.len(), c, 0, most);
     table::prepare(w, room);
     Some(room)
 }
@@ -43,9 +38,9 @@ fn prepare_for(w: &mut [u32], c: usize, most: usize) -> Option<usize>
 pub fn count_edges(w: &mut [u32], hexes: &[u32], quads: &[u32], segments: &[u32]) -> Option<usize>
     ensures { CountOf (edge_keys hexes.now quads.now segments.now) result }
 {
-    let most = parts_in(Parts::HexEdges, hexes)
-        + parts_in(Parts::QuadEdges, quads)
-        + parts_in(Parts::Segments, segments);
+    let most = Parts::HexEdges.count_all(hexes)
+        + Parts::QuadEdges.count_all(quads)
+        + Parts::Segments.count_all(segments);
     let room = prepare_for(w, 2, most)?;
     let by_hexes = parts::meet_table::<2>(w, room, 0, Parts::HexEdges, hexes)?;
     let by_quads = parts::meet_table::<2>(w, room, by_hexes, Parts::QuadEdges, quads)?;
@@ -57,11 +52,12 @@ fn count_sized<const C: usize>(w: &mut [u32], of: Parts, cells: &[u32]) -> Optio
     requires { C ≡ part_corners of }
     ensures { CountOf (table_keys of cells.now) result }
 {
-    let room = prepare_for(w, C, parts_in(of, cells))?;
+    let room = prepare_for(w, C, of.count_all(cells))?;
     parts::meet_table::<C>(w, room, 0, of, cells)
 }
 
-// The parts of the cells of one table. With cells as parts: how many corner sets they have.
+// The parts of the cells of one table. With cells as parts: how many corner sets they have. The match finds the count of corners that the kind
+// already says: as a const parameter of this function it would be a second word of callers for one thing, and a `requires` that they agree.
 pub fn count_table(w: &mut [u32], of: Parts, cells: &[u32]) -> Option<usize>
     ensures { CountOf (table_keys of cells.now) result }
 {

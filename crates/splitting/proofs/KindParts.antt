@@ -11,8 +11,7 @@ use Rattle.numbering.proofs.Places.{length_part_keys, listed_within, sized_count
 use Rattle.splitting.specs.declared.kinds.CellKind.{CellKind}
 use Rattle.splitting.specs.declared.kinds.CellKind.TheVariants.{Hex, Quad, Segment}
 use Rattle.splitting.specs.Kinds.{kind_of, corner_count, edges_of, faces_of}
-use Rattle.splitting.specs.declared.cells.Lists.{Lists}
-use Rattle.splitting.specs.Lists.{Listed}
+use Rattle.splitting.specs.declared.given.Setting.{Setting}
 use Rattle.splitting.specs.Cells.{cell_numbers}
 
 pub edge_corners : (kind : CellKind) → 2 ≡ part_corners (edges_of kind)
@@ -78,26 +77,26 @@ some_corners Segment = omega arith
 
 -- ---- the lists that are lent
 
-module _ {lists : Lists} (h : Listed lists) where
-  pub edges_listed : (cell : List ℕ) → listed_keys 2 lists.edges.now cell ≡ part_keys (edges_of lists.kind) cell
-  edges_listed cell = rw h.edges_are (sized_keys (edges_of lists.kind) 2 (edge_corners lists.kind) cell)
+module _ (s : Setting) where
+  pub edges_listed : (cell : List ℕ) → listed_keys 2 s.edges.now cell ≡ part_keys (edges_of s.kind) cell
+  edges_listed cell = rw s.edges_are (sized_keys (edges_of s.kind) 2 (edge_corners s.kind) cell)
 
-  pub faces_listed : (cell : List ℕ) → listed_keys 4 lists.faces.now cell ≡ part_keys (faces_of lists.kind) cell
-  faces_listed cell = rw h.faces_are (sized_keys (faces_of lists.kind) 4 (face_corners lists.kind) cell)
+  pub faces_listed : (cell : List ℕ) → listed_keys 4 s.faces.now cell ≡ part_keys (faces_of s.kind) cell
+  faces_listed cell = rw s.faces_are (sized_keys (faces_of s.kind) 4 (face_corners s.kind) cell)
 
-  pub edges_counted : length lists.edges.now / 2 ≡ length (places_of (edges_of lists.kind))
-  edges_counted = rw h.edges_are (sized_count (edges_of lists.kind) 2 (edge_corners lists.kind))
+  pub edges_counted : length s.edges.now / 2 ≡ length (places_of (edges_of s.kind))
+  edges_counted = rw s.edges_are (sized_count (edges_of s.kind) 2 (edge_corners s.kind))
 
-  pub faces_counted : length lists.faces.now / 4 ≡ length (places_of (faces_of lists.kind))
-  faces_counted = rw h.faces_are (sized_count (faces_of lists.kind) 4 (face_corners lists.kind))
+  pub faces_counted : length s.faces.now / 4 ≡ length (places_of (faces_of s.kind))
+  faces_counted = rw s.faces_are (sized_count (faces_of s.kind) 4 (face_corners s.kind))
 
-  module _ (cell : List ℕ) (e : length cell ≡ corner_count lists.kind) where
-    pub edges_within : Within (length cell) lists.edges.now
-    edges_within = rw (h.edges_are, e, ← edge_cell lists.kind) (listed_within (edges_of lists.kind))
+  module _ (cell : List ℕ) (e : length cell ≡ corner_count s.kind) where
+    pub edges_within : Within (length cell) s.edges.now
+    edges_within = rw (s.edges_are, e, ← edge_cell s.kind) (listed_within (edges_of s.kind))
 
-    pub faces_within : Within (length cell) lists.faces.now
-    faces_within = rw (h.faces_are, e, ← face_cell lists.kind) (listed_within (faces_of lists.kind))
+    pub faces_within : Within (length cell) s.faces.now
+    faces_within = rw (s.faces_are, e, ← face_cell s.kind) (listed_within (faces_of s.kind))
 
     -- the numbers of the cell's fine vertices are few
-    pub few_fine : length cell + length lists.edges.now / 2 + length lists.faces.now / 4 + 1 ≤ 27
-    few_fine = omega (arith, numbers_fit lists.kind, e, edges_counted, faces_counted)
+    pub few_fine : length cell + length s.edges.now / 2 + length s.faces.now / 4 + 1 ≤ 27
+    few_fine = omega (arith, numbers_fit s.kind, e, edges_counted, faces_counted)
