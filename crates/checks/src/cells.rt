@@ -25,12 +25,7 @@ pub fn has_number(x: u32, ys: &[u32]) -> bool
 pub fn has_repeat(cell: &[u32]) -> bool
     ensures { result ≡ repeats eqb cell.now }
 {
-    for i in 0..cell.len() {
-        if has_number(cell[i], &cell[i + 1..]) {
-            return true;
-        }
-    }
-    false
+    (0..cell.len()).any(|i| has_number(cell[i], &cell[i + 1..]))
 }
 
 // Whether a cell of a table, of C corners each, names a corner twice.
