@@ -18,8 +18,8 @@ use Rattle.lists.proofs.Tables.{length_cut, cut_at}
 use Rattle.lists.proofs.Decide.{computed, dec_each, dec_number}
 use Rattle.numbering.specs.declared.parts.Parts.{Parts}
 use Rattle.numbering.specs.declared.parts.Parts.TheVariants.{HexEdges, HexFaces, Hexes, QuadEdges, Quads, Segments, SegmentFaces, Points}
-use Rattle.numbering.specs.Parts.{places_of, part_corners, cell_corners}
-use Rattle.numbering.proofs.Places.{part_size, place_below}
+use Rattle.numbering.specs.Parts.{places_of, part_corners, cell_corners, table_keys}
+use Rattle.numbering.proofs.Places.{part_size, place_below, length_table_keys}
 use Rattle.checks.specs.declared.parts.Part.{Part}
 use Rattle.checks.specs.declared.parts.Part.TheVariants.{Edge, Face}
 use Rattle.checks.specs.Walk.{parts_of, parts_in, met_in, count_in, dimension, size_of, Named}
@@ -55,11 +55,15 @@ module _ (of : Parts) (table : List ℕ) where
   abbrev count : ℕ
   count = length (places_of of)
 
-  pub length_parts : length (parts_in of table) ≡ count * (length table / cell_corners of)
+  length_parts : length (parts_in of table) ≡ count * (length table / cell_corners of)
   unfolding parts_of
   length_parts =
       length_concat_map (λ (cell : List ℕ). map (corners_at cell) (places_of of)) count (cut (cell_corners of) table) (λ cell i. length-map (places_of of) (corners_at cell))
       ∙ ap (λ (n : ℕ). count * n) (length_cut (cell_corners of) table)
+
+  -- the numbering counts them by their keys
+  pub all_counted : length (table_keys of table) ≡ length (parts_in of table)
+  all_counted = length_table_keys of table ∙ sym length_parts
 
   -- so there are at most twice as many as the table has numbers
   pub few_parts : length (parts_in of table) ≤ 2 * length table
@@ -215,8 +219,9 @@ module _ (of : Part) (hs qs ss : List ℕ) where
           segment_below l = omega (arith, length_met, ea, eb, ap length hexes_are, ap length quads_are, ap length segments_are)
 
   pub length_named : {h q s : Parts} → Named of hex h → Named of quad q → Named of segment s
-      → length (parts_in h hs) + length (parts_in q qs) + length (parts_in s ss) ≡ length (met_in d hs qs ss)
-  length_named nh nq ns = rw (nh.kind, nh.dim, nq.kind, nq.dim, ns.kind, ns.dim) (omega (arith, length_met))
+      → length (table_keys h hs) + length (table_keys q qs) + length (table_keys s ss) ≡ length (met_in d hs qs ss)
+  length_named {h} {q} {s} nh nq ns =
+      rw (all_counted h hs, all_counted q qs, all_counted s ss, nh.kind, nh.dim, nq.kind, nq.dim, ns.kind, ns.dim) (omega (arith, length_met))
 
 -- ---- an edge has 2 corners, a face 4
 

@@ -4,7 +4,7 @@ ghost use Rattle.numbering.specs.Parts.{part_corners};
 ghost use Rattle.rules.specs.Mesh.{hex, quad, segment};
 ghost use Rattle.checks.specs.Walk.{parts_in, size_of, Named, parts_met};
 
-use numbering::parts::{Parts, corners_of, count_of, place_of};
+use numbering::parts::Parts;
 use tables::MeshTables;
 
 // What parts of cells are walked.
@@ -56,52 +56,44 @@ impl Part {
     }
 }
 
-// How many of these parts the cells of a table have, each counted as often as it is met.
-#[tactic(auto, using(crate::proofs::WalkLaws::length_parts))]
-fn count_in(of: Parts, cells: &[u32]) -> usize
-    ensures { result ≡ length (parts_in of cells.now) }
-{
-    count_of(of) * (cells.len() / corners_of(of))
-}
-
 // Reads the corners of number i of these parts of the cells of a table.
 fn read_in(of: Parts, cells: &[u32], i: usize, corners: &mut [u32])
     requires size { length corners.old ≡ part_corners of }
     requires i_in_bounds { i < length (parts_in of cells.now) }
     ensures { corners.new ≡ get_or (parts_in of cells.now) i [] }
 {
-    let n = count_of(of);
-    let cell = corners_of(of) * (i / n);
+    let n = of.count();
+    let cell = of.cell_corners() * (i / n);
     for j in 0..corners.len() {
-        corners[j] = cells[cell + place_of(of, i % n, j)];
+        corners[j] = cells[cell + of.place(i % n, j)];
     }
 }
 
 // How many edges or faces the cells of a mesh have, each counted as often as it is met.
-#[tactic(auto, using(crate::proofs::WalkLaws::few_parts))]
+#[tactic(auto, using(crate::proofs::WalkLaws::all_counted, crate::proofs::WalkLaws::few_parts))]
 pub fn part_count(of: Part, mesh: MeshTables) -> usize
     ensures { result ≡ length (parts_met of mesh.entry) }
 {
-    count_in(of.of_hexes(), mesh.hexes)
-        + count_in(of.of_quads(), mesh.quads)
-        + count_in(of.of_segments(), mesh.segments)
+    of.of_hexes().count_all(mesh.hexes)
+        + of.of_quads().count_all(mesh.quads)
+        + of.of_segments().count_all(mesh.segments)
 }
 
 // Reads the corners of number i of them.
-#[tactic(auto, using(crate::proofs::WalkLaws::met_hex, crate::proofs::WalkLaws::met_quad, crate::proofs::WalkLaws::met_segment, crate::proofs::WalkLaws::segment_below))]
+#[tactic(auto, using(crate::proofs::WalkLaws::all_counted, crate::proofs::WalkLaws::met_hex, crate::proofs::WalkLaws::met_quad, crate::proofs::WalkLaws::met_segment, crate::proofs::WalkLaws::segment_below))]
 pub fn read(of: Part, mesh: MeshTables, i: usize, corners: &mut [u32])
     requires size { length corners.old ≡ size_of of }
     requires i_in_bounds { i < length (parts_met of mesh) }
     ensures { corners.new ≡ get_or (parts_met of mesh.entry) i [] }
 {
     let hexes = of.of_hexes();
-    let in_hexes = count_in(hexes, mesh.hexes);
+    let in_hexes = hexes.count_all(mesh.hexes);
     if i < in_hexes {
         return read_in(hexes, mesh.hexes, i, corners);
     }
     let behind = i - in_hexes;
     let quads = of.of_quads();
-    let in_quads = count_in(quads, mesh.quads);
+    let in_quads = quads.count_all(mesh.quads);
     if behind < in_quads {
         return read_in(quads, mesh.quads, behind, corners);
     }

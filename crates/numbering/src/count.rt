@@ -16,13 +16,6 @@ pub fn room_in(words: usize, size: usize, most: usize) -> usize
     ((words - 1) / size).min(most).min(4294967294)
 }
 
-// How many parts the cells of a flat table have, each counted as often as it is met.
-fn parts_in(of: Parts, cells: &[u32]) -> usize
-    ensures { result ≡ length (table_keys of cells.now) }
-{
-    parts::count_of(of) * (cells.len() / parts::corners_of(of))
-}
-
 // Makes an empty table of keys of c numbers with room for `most`, or for as many as the memory holds; the answer is its room, or `None` where
 // there is no memory. Room that is never used would cost: a table with fewer slots is cleared sooner, and more of it stays in the processor's
 // cache.
@@ -43,9 +36,9 @@ fn prepare_for(w: &mut [u32], c: usize, most: usize) -> Option<usize>
 pub fn count_edges(w: &mut [u32], hexes: &[u32], quads: &[u32], segments: &[u32]) -> Option<usize>
     ensures { CountOf (edge_keys hexes.now quads.now segments.now) result }
 {
-    let most = parts_in(Parts::HexEdges, hexes)
-        + parts_in(Parts::QuadEdges, quads)
-        + parts_in(Parts::Segments, segments);
+    let most = Parts::HexEdges.count_all(hexes)
+        + Parts::QuadEdges.count_all(quads)
+        + Parts::Segments.count_all(segments);
     let room = prepare_for(w, 2, most)?;
     let by_hexes = parts::meet_table::<2>(w, room, 0, Parts::HexEdges, hexes)?;
     let by_quads = parts::meet_table::<2>(w, room, by_hexes, Parts::QuadEdges, quads)?;
@@ -57,11 +50,12 @@ fn count_sized<const C: usize>(w: &mut [u32], of: Parts, cells: &[u32]) -> Optio
     requires { C ≡ part_corners of }
     ensures { CountOf (table_keys of cells.now) result }
 {
-    let room = prepare_for(w, C, parts_in(of, cells))?;
+    let room = prepare_for(w, C, of.count_all(cells))?;
     parts::meet_table::<C>(w, room, 0, of, cells)
 }
 
-// The parts of the cells of one table. With cells as parts: how many corner sets they have.
+// The parts of the cells of one table. With cells as parts: how many corner sets they have. The match finds the count of corners that the kind
+// already says: as a const parameter of this function it would be a second word of callers for one thing, and a `requires` that they agree.
 pub fn count_table(w: &mut [u32], of: Parts, cells: &[u32]) -> Option<usize>
     ensures { CountOf (table_keys of cells.now) result }
 {

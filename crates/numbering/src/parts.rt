@@ -23,65 +23,71 @@ pub enum Parts {
     Points,
 }
 
-// How many parts a cell has.
-#[tactic(auto, unfolding(rules::specs::Mesh::places, rules::specs::Mesh::by_dimension, rules::specs::Mesh::singles, rules::specs::Lists::up_from))]
-pub fn count_of(parts: Parts) -> usize
-    ensures { result ≡ length (places_of parts) }
-{
-    match parts {
-        Parts::HexEdges => 12,
-        Parts::HexFaces => 6,
-        Parts::QuadEdges => 4,
-        Parts::SegmentFaces => 0,
-        Parts::Hexes | Parts::Quads | Parts::Segments | Parts::Points => 1,
+impl Parts {
+    // How many a cell has.
+    #[tactic(auto, unfolding(rules::specs::Mesh::places, rules::specs::Mesh::by_dimension, rules::specs::Mesh::singles, rules::specs::Lists::up_from))]
+    pub fn count(self) -> usize
+        ensures { result ≡ length (places_of self) }
+    {
+        match self {
+            Parts::HexEdges => 12,
+            Parts::HexFaces => 6,
+            Parts::QuadEdges => 4,
+            Parts::SegmentFaces => 0,
+            Parts::Hexes | Parts::Quads | Parts::Segments | Parts::Points => 1,
+        }
     }
-}
 
-// How many corners a cell with these parts has.
-pub fn corners_of(parts: Parts) -> usize
-    ensures { result ≡ cell_corners parts }
-{
-    match parts {
-        Parts::HexEdges => 8,
-        Parts::HexFaces => 8,
-        Parts::Hexes => 8,
-        Parts::QuadEdges => 4,
-        Parts::Quads => 4,
-        Parts::Segments => 2,
-        Parts::SegmentFaces => 2,
-        Parts::Points => 1,
+    // How many corners a cell with these parts has.
+    pub fn cell_corners(self) -> usize
+        ensures { result ≡ cell_corners self }
+    {
+        match self {
+            Parts::HexEdges | Parts::HexFaces | Parts::Hexes => 8,
+            Parts::QuadEdges | Parts::Quads => 4,
+            Parts::Segments | Parts::SegmentFaces => 2,
+            Parts::Points => 1,
+        }
     }
-}
 
-// The place of a corner of a part in the cell.
-#[tactic(auto, unfolding(rules::specs::Mesh::places, rules::specs::Mesh::by_dimension))]
-pub fn place_of(parts: Parts, part: usize, corner: usize) -> usize
-    requires part_in_bounds { part < length (places_of parts) }
-    requires corner_bound { corner < part_corners parts }
-    ensures { result ≡ place_of (places_of parts) part corner }
-{
-    match parts {
-        Parts::HexEdges => entry(&HEX_EDGES, part, corner),
-        Parts::HexFaces => entry(&HEX_FACES, part, corner),
-        Parts::QuadEdges => entry(&QUAD_EDGES, part, corner),
-        Parts::Hexes | Parts::Quads | Parts::Segments | Parts::SegmentFaces | Parts::Points =>
-            corner,
+    // How many the cells of a flat table have, each counted as often as it is met.
+    #[tactic(auto, using(crate::proofs::Places::length_table_keys))]
+    pub fn count_all(self, cells: &[u32]) -> usize
+        ensures { result ≡ length (table_keys self cells.now) }
+    {
+        self.count() * (cells.len() / self.cell_corners())
     }
-}
 
-// The places of the corners of a cell's parts, c for each part, part after part; zeros behind them, as there is no heap and the most are 24.
-// They are listed once for a whole table of cells: what is done for each cell then reads them in a row.
-#[tactic(auto, using(crate::proofs::Places::few_listed, crate::proofs::Places::length_listed))]
-pub fn listed(parts: Parts, c: usize) -> [u8; 24]
-    requires { c ≡ part_corners parts }
-    ensures { take (length (places_listed parts)) result ≡ places_listed parts }
-{
-    let mut places = [0u8; 24];
-    let count = c * count_of(parts);
-    for i in 0..count {
-        places[i] = place_of(parts, i / c, i % c) as u8;
+    // The place of a corner of a part in the cell.
+    #[tactic(auto, unfolding(rules::specs::Mesh::places, rules::specs::Mesh::by_dimension))]
+    pub fn place(self, part: usize, corner: usize) -> usize
+        requires part_in_bounds { part < length (places_of self) }
+        requires corner_bound { corner < part_corners self }
+        ensures { result ≡ place_of (places_of self) part corner }
+    {
+        match self {
+            Parts::HexEdges => entry(&HEX_EDGES, part, corner),
+            Parts::HexFaces => entry(&HEX_FACES, part, corner),
+            Parts::QuadEdges => entry(&QUAD_EDGES, part, corner),
+            Parts::Hexes | Parts::Quads | Parts::Segments | Parts::SegmentFaces | Parts::Points =>
+                corner,
+        }
     }
-    places
+
+    // The places of the corners of a cell's parts, c for each part, part after part; zeros behind them, as there is no heap and the most are
+    // 24. They are listed once for a whole table of cells: what is done for each cell then reads them in a row.
+    #[tactic(auto, using(crate::proofs::Places::few_listed, crate::proofs::Places::length_listed))]
+    pub fn listed(self, c: usize) -> [u8; 24]
+        requires { c ≡ part_corners self }
+        ensures { take (length (places_listed self)) result ≡ places_listed self }
+    {
+        let mut places = [0u8; 24];
+        let count = c * self.count();
+        for i in 0..count {
+            places[i] = self.place(i / c, i % c) as u8;
+        }
+        places
+    }
 }
 
 // Reads the numbers that stand at these places.
@@ -109,7 +115,7 @@ fn meet_part<const C: usize>(
     n: usize,
     places: &[u8],
     cell: &[u32],
-) -> Option<table::Entry>
+) -> Option<table::MetKey>
     requires corners { C < 2 ^ 61 }
     requires table { Table C w.old room n }
     requires places_len { length places.now ≡ C }
@@ -187,7 +193,7 @@ pub fn meet_table<const C: usize>(
     requires corners { C ≡ part_corners parts }
     ensures { Tallied C w.old w.new room n (table_keys parts cells.now) result }
 {
-    let places = listed(parts, C);
-    let end = C * count_of(parts);
-    meet_cells::<C>(w, room, n, &places[..end], cells, corners_of(parts))
+    let places = parts.listed(C);
+    let end = C * parts.count();
+    meet_cells::<C>(w, room, n, &places[..end], cells, parts.cell_corners())
 }

@@ -9,7 +9,7 @@ ghost use Rattle.numbering.specs.Meeting.{Found, Answered};
 
 // What meeting a key answers: the key's number, and how many keys there are then.
 #[derive(Clone, Copy)]
-pub struct Entry {
+pub struct MetKey {
     pub number: usize,
     pub known: usize,
 }
@@ -100,19 +100,19 @@ fn enter(w: &mut [u32], room: usize, n: usize, s: usize, key: &[u32])
 
 // Meets a key in a table of n keys; the answer is `None` where it is new and there is no room for it.
 #[tactic(auto, using(crate::proofs::Entries::length_keys))]
-pub fn meet(w: &mut [u32], room: usize, n: usize, key: &[u32]) -> Option<Entry>
+pub fn meet(w: &mut [u32], room: usize, n: usize, key: &[u32]) -> Option<MetKey>
     requires { Table (length key.now) w.old room n }
     ensures { Answered (length key.now) w.old w.new room n key.now result }
 {
     let s = slot(room, key);
     if let Some(number) = find(w, room, n, s, key) {
-        return Some(Entry { number, known: n });
+        return Some(MetKey { number, known: n });
     }
     if room <= n {
         return None;
     }
     enter(w, room, n, s, key);
-    Some(Entry {
+    Some(MetKey {
         number: n,
         known: n + 1,
     })

@@ -198,11 +198,11 @@ pub fn split_cells(
     let corners = kind.corner_count();
     let edges = kind.edges();
     let faces = kind.faces();
-    let edge_places = parts::listed(edges, 2);
-    let face_places = parts::listed(faces, 4);
+    let edge_places = edges.listed(2);
+    let face_places = faces.listed(4);
     let smallest = kind.smallest_parts();
-    let edges_end = 2 * parts::count_of(edges);
-    let faces_end = 4 * parts::count_of(faces);
+    let edges_end = 2 * edges.count();
+    let faces_end = 4 * faces.count();
     let lists = Lists {
         kind,
         edges: &edge_places[..edges_end],

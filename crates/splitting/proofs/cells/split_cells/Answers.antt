@@ -19,40 +19,40 @@ module _ (parts of : Parts) (c n : ℕ) (same : parts ≡ of) (p : c ≡ part_co
 pub overflow_mul-edges_end : goal.overflow_mul-edges_end
 overflow_mul-edges_end c =
     let k = c.args.kind in
-    omega (arith, size _ _ 2 _ c.edges-edges.ensures (edge_corners k) c.count_of-edges_end.ensures, few_listed (edges_of k))
+    omega (arith, size _ _ 2 _ c.edges-edges.ensures (edge_corners k) c.count-edges_end.ensures, few_listed (edges_of k))
 
 pub overflow_mul-faces_end : goal.overflow_mul-faces_end
 overflow_mul-faces_end c =
     let k = c.args.kind in
-    omega (arith, size _ _ 4 _ c.faces-faces.ensures (face_corners k) c.count_of-faces_end.ensures, few_listed (faces_of k))
+    omega (arith, size _ _ 4 _ c.faces-faces.ensures (face_corners k) c.count-faces_end.ensures, few_listed (faces_of k))
 
 pub slice_bounds-edge_places-end : goal.slice_bounds-edge_places-end
 slice_bounds-edge_places-end c =
     let k = c.args.kind in
-    omega (arith, size _ _ 2 _ c.edges-edges.ensures (edge_corners k) c.count_of-edges_end.ensures, few_listed (edges_of k))
+    omega (arith, size _ _ 2 _ c.edges-edges.ensures (edge_corners k) c.count-edges_end.ensures, few_listed (edges_of k))
 
 pub slice_bounds-face_places-end : goal.slice_bounds-face_places-end
 slice_bounds-face_places-end c =
     let k = c.args.kind in
-    omega (arith, size _ _ 4 _ c.faces-faces.ensures (face_corners k) c.count_of-faces_end.ensures, few_listed (faces_of k))
+    omega (arith, size _ _ 4 _ c.faces-faces.ensures (face_corners k) c.count-faces_end.ensures, few_listed (faces_of k))
 
 pub slice_bounds-lists-end : goal.slice_bounds-lists-end
 slice_bounds-lists-end c =
     let k = c.args.kind in
-    size _ _ 2 _ c.edges-edges.ensures (edge_corners k) c.count_of-edges_end.ensures
-    ∙ sym (ap length (lent _ _ 2 _ c.edges-edges.ensures (edge_corners k) c.count_of-edges_end.ensures _ c.listed-edge_places.ensures))
+    size _ _ 2 _ c.edges-edges.ensures (edge_corners k) c.count-edges_end.ensures
+    ∙ sym (ap length (lent _ _ 2 _ c.edges-edges.ensures (edge_corners k) c.count-edges_end.ensures _ c.listed-edge_places.ensures))
 
 pub slice_bounds-lists-end-2 : goal.slice_bounds-lists-end-2
 slice_bounds-lists-end-2 c =
     let k = c.args.kind in
-    size _ _ 4 _ c.faces-faces.ensures (face_corners k) c.count_of-faces_end.ensures
-    ∙ sym (ap length (lent _ _ 4 _ c.faces-faces.ensures (face_corners k) c.count_of-faces_end.ensures _ c.listed-face_places.ensures))
+    size _ _ 4 _ c.faces-faces.ensures (face_corners k) c.count-faces_end.ensures
+    ∙ sym (ap length (lent _ _ 4 _ c.faces-faces.ensures (face_corners k) c.count-faces_end.ensures _ c.listed-face_places.ensures))
 
 pub split_each-requires-clause-listed : goal.split_each-requires-clause-listed
 split_each-requires-clause-listed c =
     let k = c.args.kind in
     record {
-      edges_are = lent _ _ 2 _ c.edges-edges.ensures (edge_corners k) c.count_of-edges_end.ensures _ c.listed-edge_places.ensures;
-      faces_are = lent _ _ 4 _ c.faces-faces.ensures (face_corners k) c.count_of-faces_end.ensures _ c.listed-face_places.ensures;
+      edges_are = lent _ _ 2 _ c.edges-edges.ensures (edge_corners k) c.count-edges_end.ensures _ c.listed-edge_places.ensures;
+      faces_are = lent _ _ 4 _ c.faces-faces.ensures (face_corners k) c.count-faces_end.ensures _ c.listed-face_places.ensures;
       smallest_are = rw (c.corner_count-corners.ensures, ← length_smallest k) c.smallest_parts-smallest.ensures;
     }
