@@ -8,7 +8,7 @@ ghost use Rattle.checks.specs.Classes.{walked, Size, tag_for, squared, class_of,
 
 use crate::parts::Part;
 use crate::tagged::{Stopped, TaggedKeys};
-use crate::{cells, faces, parts};
+use crate::{cells, faces};
 use tables::MeshTables;
 
 // What is walked: the edges of a mesh; its faces, told apart by how they go round; the cells of a flat table. It is an enum and no trait: no
@@ -74,8 +74,8 @@ impl<'a, const C: usize> Walked<'a, C> {
         ensures { result.of ≡ of.entry }
     {
         let count = match of {
-            Walk::Edges(mesh) => parts::part_count(Part::Edge, mesh),
-            Walk::Faces(mesh) => parts::part_count(Part::Face, mesh),
+            Walk::Edges(mesh) => Part::Edge.count_all(mesh),
+            Walk::Faces(mesh) => Part::Face.count_all(mesh),
             Walk::Cells(table) => table.len() / C,
         };
         Walked { of, count }
@@ -86,13 +86,11 @@ impl<'a, const C: usize> Walked<'a, C> {
         requires { i < self.count }
         ensures { result ≡ get_or (walked self.entry.of C) i [] }
     {
-        let mut corners = [0u32; C];
         match self.of {
-            Walk::Edges(mesh) => parts::read(Part::Edge, mesh, i, &mut corners),
-            Walk::Faces(mesh) => parts::read(Part::Face, mesh, i, &mut corners),
-            Walk::Cells(table) => cells::read(table, i, &mut corners),
+            Walk::Edges(mesh) => Part::Edge.read(mesh, i),
+            Walk::Faces(mesh) => Part::Face.read(mesh, i),
+            Walk::Cells(table) => cells::read(table, i),
         }
-        corners
     }
 
     // What tells two apart that have one corner set.

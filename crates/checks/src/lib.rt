@@ -123,7 +123,6 @@ pub fn check_mesh(mesh: MeshTables, words: &mut [u32]) -> Result<usize, Refusal>
 }
 
 // How many edges there are, with these numbers.
-#[tactic(auto, using(crate::proofs::Duplicates::edge_keys_lem))]
 fn edge_count_with(words: &mut [u32], mesh: PlainMesh) -> usize
     ensures { result ≡ parts_counted Part.Edge mesh.entry.tables }
 {

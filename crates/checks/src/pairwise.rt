@@ -9,7 +9,7 @@ ghost use Rattle.checks.specs.Held.{within};
 
 use crate::cells::PlainMesh;
 use crate::parts::Part;
-use crate::{cells, faces, parts};
+use crate::{cells, faces};
 
 // Whether each corner of the one is a corner of the other. Of two cells of one size that name no corner twice it tells whether they have
 // one corner set.
@@ -41,12 +41,11 @@ fn same_parts(of: Part, mesh: PlainMesh, i: usize, j: usize) -> bool
     requires { (i < length (parts_met of mesh.tables)) × (j < length (parts_met of mesh.tables)) }
     ensures { let ps = parts_met of mesh.entry.tables in result ≡ same (key_of (get_or ps i [])) (key_of (get_or ps j [])) }
 {
-    let k = of.corners();
-    let mut a = [0u32; 4];
-    let mut b = [0u32; 4];
-    parts::read(of, mesh.tables, i, &mut a[..k]);
-    parts::read(of, mesh.tables, j, &mut b[..k]);
-    is_within(&a[..k], &b[..k])
+    let t = mesh.tables;
+    match of {
+        Part::Edge => is_within(&of.read::<2>(t, i), &of.read::<2>(t, j)),
+        Part::Face => is_within(&of.read::<4>(t, i), &of.read::<4>(t, j)),
+    }
 }
 
 // Whether part i was met before.
@@ -61,7 +60,7 @@ fn is_met_before(of: Part, mesh: PlainMesh, i: usize) -> bool
 pub fn count_distinct(of: Part, mesh: PlainMesh) -> usize
     ensures { result ≡ parts_counted of mesh.entry.tables }
 {
-    (0..parts::part_count(of, mesh.tables))
+    (0..of.count_all(mesh.tables))
         .filter(|i| !is_met_before(of, mesh, *i))
         .count()
 }
@@ -71,10 +70,8 @@ fn is_mismatched(mesh: PlainMesh, i: usize, j: usize) -> bool
     requires { (i < length (parts_met Part.Face mesh.tables)) × (j < length (parts_met Part.Face mesh.tables)) }
     ensures { let fs = parts_met Part.Face mesh.entry.tables in result ≡ mismatched (get_or fs i []) (get_or fs j []) }
 {
-    let mut f = [0u32; 4];
-    let mut g = [0u32; 4];
-    parts::read(Part::Face, mesh.tables, i, &mut f);
-    parts::read(Part::Face, mesh.tables, j, &mut g);
+    let f = Part::Face.read(mesh.tables, i);
+    let g = Part::Face.read(mesh.tables, j);
     is_within(&f, &g) && faces::across(f) != faces::across(g)
 }
 
@@ -83,12 +80,12 @@ fn has_mismatch(mesh: PlainMesh, i: usize) -> bool
     requires { i < length (parts_met Part.Face mesh.tables) }
     ensures { let fs = parts_met Part.Face mesh.entry.tables in result ≡ any (mismatched (get_or fs i [])) fs }
 {
-    (0..parts::part_count(Part::Face, mesh.tables)).any(|j| is_mismatched(mesh, i, j))
+    (0..Part::Face.count_all(mesh.tables)).any(|j| is_mismatched(mesh, i, j))
 }
 
 // Whether two faces have one corner set and different neighbours in going round.
 pub fn has_mismatched_face(mesh: PlainMesh) -> bool
     ensures { result ≡ mismatched_face (topology (mesh_in mesh.entry.tables)) }
 {
-    (0..parts::part_count(Part::Face, mesh.tables)).any(|i| has_mismatch(mesh, i))
+    (0..Part::Face.count_all(mesh.tables)).any(|i| has_mismatch(mesh, i))
 }

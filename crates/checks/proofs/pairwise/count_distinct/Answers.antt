@@ -12,8 +12,8 @@ use Rattle.checks.proofs.pairwise.count_distinct.Goals as goal
 pub returns : goal.returns
 returns c =
     let keys = map key_of (parts_met c.args.of c.args.mesh.tables) in
-    let n = c.part_count.result in
-    let e : n ≡ length keys = c.part_count.ensures ∙ sym (length-map (parts_met c.args.of c.args.mesh.tables) key_of) in
+    let n = c.count_all.result in
+    let e : n ≡ length keys = c.count_all.ensures ∙ sym (length-map (parts_met c.args.of c.args.mesh.tables) key_of) in
     count_from_yields_List c.filter.result _ c.count.ensures.ran
     (YieldsList-from_filter _ (is_new keys) (YieldsList-from_range 0 n n c.filter.ensures.source (omega arith)) c.filter.ensures.closure (λ x r q k. search (rules, tests)))
     ∙ ap (λ l. length (filter (is_new keys) l)) (range-up_from 0 n ∙ ap (up_from 0) e)

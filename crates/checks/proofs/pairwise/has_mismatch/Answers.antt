@@ -10,6 +10,6 @@ pub returns : goal.returns
 returns c =
     let fs = parts_met Face c.args.mesh.tables in
     let test = λ (j : ℕ). mismatched (get_or fs c.args.i []) (get_or fs j []) in
-    any_range test c.part_count.result _ _ _ c.any.ensures.ran refl (λ x b q k. search (rules, tests))
-    ∙ ap (λ (n : ℕ). any test (up_from 0 n)) c.part_count.ensures
+    any_range test c.count_all.result _ _ _ c.any.ensures.ran refl (λ x b q k. search (rules, tests))
+    ∙ ap (λ (n : ℕ). any test (up_from 0 n)) c.count_all.ensures
     ∙ any_places (mismatched (get_or fs c.args.i [])) fs []
