@@ -87,6 +87,7 @@ fn read_in<const C: usize>(of: Parts, cells: &[u32], i: usize) -> [u32; C]
     let n = of.count();
     let cell = of.cell_corners() * (i / n);
     let mut corners = [0u32; C];
+    // No `from_fn`: under a const parameter its closure would need clauses of its own.
     for (j, corner) in corners.iter_mut().enumerate() {
         *corner = cells[cell + of.place(i % n, j)];
     }
