@@ -3,28 +3,34 @@ use mathlib.Core.Path.{◌≡◌, refl, sym, ap, ◌∙◌}
 use mathlib.Core.Bool.{Bool, true, false, cond}
 use mathlib.Core.List.{List, [], ◌∷◌, map}
 use Prim.Native.Nat.{ℕ, suc, ◌+◌, ◌*◌, ◌%◌, ◌^◌, ◌<◌, ◌≤◌}
-use native.Mathlib.Nat.{mod-lt, div-lt_iff_lt-mul, mul_comm, mul-lt-mul_of_pos_right}
+use native.Mathlib.Nat.{add-zero, zero-add, add_assoc, mod-lt, div-lt_iff_lt-mul, mul_comm, mul-lt-mul_of_pos_right}
 use native.Mathlib.Omega.{arith}
-use lib.Dec.{leb, ltb, eqb}
+use lib.Dec.{leb, ltb, eqb, lit<}
 use lib.ListN.{length}
 use borrow.Author.Tests.{ltb-true, ltb-false, eqb-true, eqb-false, lt-ltb, le-ltb}
+use Rattle.std.specs.List.{fold, sum_by}
 use Rattle.rules.specs.Lists.{keep, Key, insert, key_of, distinct}
 use Rattle.lists.proofs.Membership.{in_keep, keep_in}
 use Rattle.lists.proofs.Once.{once_keep, length_same}
 use Rattle.lists.proofs.Distinct.{in_distinct, distinct_in, once_distinct}
-use Rattle.checks.specs.declared.classes.Class.{Class}
-use Rattle.checks.specs.declared.classes.Walk.{Walk}
-use Rattle.checks.specs.declared.classes.Walk.TheVariants.{Edges, Faces, Cells}
-use Rattle.checks.specs.Classes.{Size, squared, total, class_of, in_class}
-
--- ---- what is walked has few corners
-
-pub few_corners : (of : Walk) (k : ℕ) → Size of k → k ≤ 8
-few_corners (Edges mesh) k h = omega arith
-few_corners (Faces mesh) k h = omega arith
-few_corners (Cells cells) k h = h.1
+use Rattle.checks.specs.Classes.{squared, total, class_of, in_class}
 
 -- ---- the class is that of the corner set
+
+-- the library's sum
+sum_from : (n : ℕ) (p : List ℕ) → fold (λ (a x : ℕ). a + squared x) n p ≡ n + total p
+unfolding total
+sum_from n [] = sym (add-zero n)
+sum_from n (x ∷ p) = sum_from (n + squared x) p ∙ add_assoc n (squared x) (total p)
+
+pub sum_total : (p : List ℕ) → sum_by squared p ≡ total p
+sum_total p = sum_from 0 p ∙ zero-add (total p)
+
+-- of few corners it is small
+pub total_few : (p : List ℕ) → total p ≤ 2 ^ 32 * length p
+unfolding total
+total_few [] = omega arith
+total_few (x ∷ p) = omega (arith, total_few p, mod-lt (x * x) {m = 2 ^ 32} (lit< tt))
 
 total_insert : (x : ℕ) (ys : List ℕ) → total (insert x ys) ≡ squared x + total ys
 unfolding total insert
@@ -71,12 +77,12 @@ module _ {A B : Type 0} (f : A → B) (p : B → Bool) (q : A → Bool) (same : 
       go true e = ap (λ (l : List B). f x ∷ l) e
       go false e = e
 
-pub class_distinct : (class : Class) (ps : List (List ℕ))
-    → length (distinct (map key_of (keep (in_class class) ps))) ≡ length (keep (in_class class) (distinct (map key_of ps)))
-class_distinct class ps =
+pub class_distinct : (m number : ℕ) (ps : List (List ℕ))
+    → length (distinct (map key_of (keep (in_class m number) ps))) ≡ length (keep (in_class m number) (distinct (map key_of ps)))
+class_distinct m number ps =
     ap (λ (ks : List Key). length (distinct ks))
-    (sym (keep_map key_of (in_class class) (in_class class) (λ p. ap (λ (n : ℕ). eqb n class.number) (class_key class.count p)) ps))
-    ∙ distinct_keep (in_class class) (map key_of ps)
+    (sym (keep_map key_of (in_class m number) (in_class m number) (λ p. ap (λ (n : ℕ). eqb n number) (class_key m p)) ps))
+    ∙ distinct_keep (in_class m number) (map key_of ps)
 
 -- ---- the classes one after the other
 

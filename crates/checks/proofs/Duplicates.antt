@@ -5,12 +5,12 @@ use mathlib.Core.Logic.{inl, inr, ⊎_elim}
 use mathlib.Core.List.{List, [], ◌∷◌, ◌++◌, map, map-append, map-map}
 use Prim.Native.Nat.{ℕ, suc, ◌/◌}
 use native.Mathlib.Omega.{arith}
-use lib.Dec.{eqb}
+use lib.Dec.{eqb, lit<}
 use lib.ListN.{length, length-map}
 use borrow.Author.Tests.{eq-eqb, ne_eqb}
 use Rattle.rules.specs.Lists.{any, repeats, concat_map, entries, cut, up_from, Key, key_of, same, distinct}
-use Rattle.rules.specs.Mesh.{hex, quad, segment, whole, singles, places, by_dimension}
-use Rattle.rules.specs.Split.{corners_at, key_at}
+use Rattle.rules.specs.Mesh.{Mesh, hex, quad, segment, topology, whole, singles, places, by_dimension}
+use Rattle.rules.specs.Split.{corners_at, key_at, met}
 use Rattle.lists.specs.Membership.{In}
 use Rattle.lists.proofs.Once.{length_within}
 use Rattle.lists.proofs.Membership.{concat_map_same}
@@ -23,9 +23,8 @@ use Rattle.numbering.specs.declared.parts.Parts.{Parts}
 use Rattle.numbering.specs.declared.parts.Parts.TheVariants.{HexEdges, HexFaces, Hexes, QuadEdges, Quads, Segments, SegmentFaces, Points}
 use Rattle.numbering.specs.Parts.{kind_of, dimension_of, places_of, part_corners, cell_corners, part_keys, table_keys}
 use Rattle.numbering.specs.Count.{edge_keys}
-use Rattle.checks.specs.declared.parts.Part.TheVariants.{Edge}
-use Rattle.checks.specs.Walk.{parts_of, met_in, count_in}
-use Rattle.checks.proofs.WalkLaws.{met_is}
+use Rattle.checks.specs.Walk.{parts_of}
+use Rattle.checks.proofs.WalkLaws.{met_tables}
 
 -- where a key repeats, one of its places can be left out
 record Shorter (ks : List Key) : Type 0 where
@@ -109,25 +108,28 @@ cell_keys of e table =
     ∙ concat_singles key_of (cut (cell_corners of) table)
 
 -- of all edges and of all faces
-pub edge_keys_lem : (hs qs ss : List ℕ) → edge_keys hs qs ss ≡ map key_of (met_in 1 hs qs ss)
+pub edge_keys_lem : (m : Mesh) → edge_keys m.hexes m.quads m.segments ≡ map key_of (met (topology m) 1)
 unfolding edge_keys
-edge_keys_lem hs qs ss =
-    let H = parts_of hex 1 hs in
-    let Q = parts_of quad 1 qs in
-    let S = parts_of segment 1 ss in
-    rw (part_keys_lem HexEdges hs, part_keys_lem QuadEdges qs, part_keys_lem Segments ss)
-    (sym (ap (map key_of) (met_is Edge hs qs ss) ∙ map-append key_of H (Q ++ S)
+edge_keys_lem m =
+    let H = parts_of hex 1 m.hexes in
+    let Q = parts_of quad 1 m.quads in
+    let S = parts_of segment 1 m.segments in
+    rw (part_keys_lem HexEdges m.hexes, part_keys_lem QuadEdges m.quads, part_keys_lem Segments m.segments)
+    (sym (ap (map key_of) (met_tables 1 (lit< tt) m) ∙ map-append key_of H (Q ++ S)
     ∙ ap (λ (l : List Key). map key_of H ++ l) (map-append key_of Q S)))
 
--- segments that are all different are as many edges
-pub segments_alone : (hs qs ss : List ℕ) → length hs ≡ 0 → length qs ≡ 0 → repeats same (map key_of (cut 2 ss)) ≡ false
-    → count_in 1 hs qs ss ≡ length ss / 2
+segments_only : (hs qs ss : List ℕ) → length hs ≡ 0 → length qs ≡ 0 → edge_keys hs qs ss ≡ table_keys Segments ss
 unfolding edge_keys table_keys cut concat_map entries
-segments_alone (x ∷ hs) qs ss a b h = absurd (omega arith)
-segments_alone [] (x ∷ qs) ss a b h = absurd (omega arith)
-segments_alone [] [] ss a b h =
-    let ks = map key_of (cut 2 ss) in
-    ap (λ (l : List Key). length (distinct l)) (sym (edge_keys_lem [] [] ss) ∙ cell_keys Segments refl ss)
+segments_only (x ∷ hs) qs ss a b = absurd (omega arith)
+segments_only [] (x ∷ qs) ss a b = absurd (omega arith)
+segments_only [] [] ss a b = refl
+
+-- segments that are all different are as many edges
+pub segments_alone : (m : Mesh) → length m.hexes ≡ 0 → length m.quads ≡ 0 → repeats same (map key_of (cut 2 m.segments)) ≡ false
+    → length (distinct (map key_of (met (topology m) 1))) ≡ length m.segments / 2
+segments_alone m a b h =
+    let ks = map key_of (cut 2 m.segments) in
+    ap (λ (l : List Key). length (distinct l)) (sym (edge_keys_lem m) ∙ segments_only m.hexes m.quads m.segments a b ∙ cell_keys Segments refl m.segments)
     ∙ ap length (distinct_once ks (repeats_once_keys ks h))
-    ∙ length-map (cut 2 ss) key_of
-    ∙ length_cut 2 ss
+    ∙ length-map (cut 2 m.segments) key_of
+    ∙ length_cut 2 m.segments

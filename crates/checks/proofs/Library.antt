@@ -1,18 +1,26 @@
 -- The library's words in the rules': tests of a whole list, and the entries of a flat table. Assumes nothing.
-use Rattle.std.specs.Prelude.{◌≡◌, Bool, true, false, ◌||◌, List, [], ◌∷◌, ◌++◌, ℕ, zero, suc, ◌+◌, ◌*◌, ◌/◌, ◌<◌, ◌≤◌, length, take, drop, get_or, eqb, fold}
-use Rattle.std.specs.List.{list_any}
+use Rattle.std.specs.Prelude.{◌≡◌, Bool, true, false, ◌||◌, List, [], ◌∷◌, ◌++◌, ℕ, zero, suc, ◌+◌, ◌*◌, ◌/◌, ◌<◌, ◌≤◌, length, take, drop, get_or, eqb, fold, Option}
+use denote.Param.Members.{Mut}
+use Rattle.std.specs.List.{list_any, range_with_len, FoldsTo}
+use Rattle.std.specs.Fn.{Called}
+use Rattle.std.specs.Iterator.{YieldsThen}
+use Rattle.std.specs.Option.{MatchOption}
+use Rattle.std.specs.declared.ops.Range.{Range}
 use Rattle.std.specs.declared.slice.ChunksExact.{ChunksExact}
 use Rattle.std.specs.Slice.Iter.{chunks_exact_rest, chunks_exact_size, chunks_exact_steps}
-use Rattle.std.proofs.Common.{refl, sym, ap, ◌∙◌, subst, add-one, arith, length-append, drop-cons, mul-zero}
+use Rattle.std.proofs.Common.{refl, sym, ap, ◌∙◌, subst, add-one, arith, length-append, mul-zero}
 use Rattle.std.proofs.Math.Nat.{add-div_left, div-eq_of_lt}
-use Rattle.std.proofs.lemmas.Iterator.{YieldsList}
+use Rattle.std.proofs.iter.Yields.{nat_range_steps}
+use Rattle.std.proofs.lemmas.Iterator.{YieldsList, YieldsList-from_range}
+use Rattle.std.proofs.lemmas.Iterator.Search.{any_from_yields_List}
 use Rattle.std.proofs.lemmas.Iterator.Splits.{YieldsList-from_shown_while}
-use lib.Seq.{take_all, take_at, drop_at, drop-drop, get_or-take, length-take-le}
+use lib.Seq.{take_at, drop_at, drop-drop, length-take-le}
 use lib.ListN.{take-append-drop, length-drop}
 use borrow.Author.Tests.{ne_eqb, eqb-false}
-use Rattle.rules.specs.Lists.{any, repeats, entries, cut, has}
-use Rattle.lists.proofs.Tests.{any_same, any_turn, in_any, false_together, or_false, or_assoc}
-use Rattle.lists.proofs.Membership.{get_or_in}
+use Rattle.rules.specs.Lists.{any, repeats, entries, cut, has, up_from}
+use Rattle.lists.proofs.Tests.{any_same, any_map, false_together, or_false, or_assoc}
+use Rattle.lists.proofs.Membership.{up_from_shift}
+use Rattle.numbering.proofs.Firsts.{firsts_get_or}
 use Rattle.lists.proofs.Tables.{length_cut}
 
 module _ {A : Type 0} where
@@ -29,12 +37,6 @@ module _ {A : Type 0} where
 
   pub fold_any : (p : A → Bool) (xs : List A) → fold (λ (b : Bool) (x : A). b || p x) false xs ≡ any p xs
   fold_any p xs = fold_any_from p false xs
-
-  -- a search through what is behind element i, taken apart
-  pub repeats-drop : (equal : A → A → Bool) (xs : List A) (i : ℕ) (z : A) → i < length xs
-      → repeats equal (drop i xs) ≡ (any (equal (get_or xs i z)) (drop (i + 1) xs) || repeats equal (drop (i + 1) xs))
-  unfolding repeats
-  repeats-drop equal xs i z h = rw (drop-cons xs i z h, add-one i)
 
   -- the first entry of a flat table
   pub cut-append : (k : ℕ) (x ys : List A) → 0 < k → length x ≡ k → cut k (x ++ ys) ≡ x ∷ cut k ys
@@ -61,22 +63,45 @@ pub has_contains : (x : ℕ) (xs : List ℕ) → list_any (λ (y : ℕ). eqb y x
 unfolding has
 has_contains x xs = any-list_any (λ (y : ℕ). eqb y x) xs ∙ any_same (λ (y : ℕ). eqb y x) (eqb x) xs (λ y i. either_way x y)
 
-module _ {A : Type 0} (p : A → Bool) (xs : List A) where
-  -- a loop that looks for an element that passes a test: it stops at the first, or none of those so far passes
-  pub none_more : (i : ℕ) (d : A) → i < length xs → any p (take i xs) ≡ false → p (get_or xs i d) ≡ false → any p (take (i + 1) xs) ≡ false
-  none_more i d h none miss = rw (add-one i, any_turn p xs i d h, none) miss
+-- ---- a search by number
 
-  pub one_passes : (i : ℕ) (d : A) → i < length xs → p (get_or xs i d) ≡ true → any p xs ≡ true
-  one_passes i d h hit = in_any p xs (get_or xs i d) (get_or_in xs i d h) hit
+-- the library's ranges
+pub range-up_from : (a n : ℕ) → range_with_len a n ≡ up_from a n
+unfolding up_from
+range-up_from a zero = refl
+range-up_from a (suc n) = rw (add-one a) (ap (λ (l : List ℕ). a ∷ l) (range-up_from (suc a) n))
 
-  pub none_passes : (i : ℕ) → length xs ≤ i → any p (take i xs) ≡ false → any p xs ≡ false
-  none_passes i h none = rw (take_all i xs h) at none
+module _ {A : Type 0} where
+  -- a list is searched by its places
+  pub any_places : (p : A → Bool) (xs : List A) (d : A) → any (λ (i : ℕ). p (get_or xs i d)) (up_from 0 (length xs)) ≡ any p xs
+  any_places p xs d = sym (any_map p (λ (i : ℕ). get_or xs i d) (up_from 0 (length xs))) ∙ ap (any p) (firsts_get_or xs d)
 
-  -- the same within a front
-  pub one_before : (i j : ℕ) (d : A) → j < i → i ≤ length xs → p (get_or xs j d) ≡ true → any p (take i xs) ≡ true
-  one_before i j d h l hit =
-      in_any p (take i xs) (get_or xs j d)
-      (rw (get_or-take i xs j d h) at (get_or_in (take i xs) j d (omega (arith, length-take-le i xs l)))) hit
+  -- each element is sought behind its place
+  pub repeats_places : (equal : A → A → Bool) (xs : List A) (d : A)
+      → any (λ (i : ℕ). any (equal (get_or xs i d)) (drop (i + 1) xs)) (up_from 0 (length xs)) ≡ repeats equal xs
+  unfolding any repeats up_from
+  repeats_places equal [] d = refl
+  repeats_places equal (x ∷ xs) d =
+      let test : List A → ℕ → Bool = λ ys i. any (equal (get_or ys i d)) (drop (i + 1) ys) in
+      let behind : any (test (x ∷ xs)) (up_from 1 (length xs)) ≡ repeats equal xs =
+      ap (any (test (x ∷ xs))) (up_from_shift 1 0 (length xs))
+      ∙ any_map (test (x ∷ xs)) (λ (v : ℕ). 1 + v) (up_from 0 (length xs))
+      ∙ any_same (λ (v : ℕ). test (x ∷ xs) (1 + v)) (test xs) (up_from 0 (length xs))
+      (λ v i. let e : 1 + v ≡ suc v = omega arith in rw (e, add-one (suc v), add-one v))
+      ∙ repeats_places equal xs d in
+      ap (λ (b : Bool). any (equal x) xs || b) behind
+
+-- `any` over the numbers below n
+module _ {F : Type 0} {g : Mut F (ℕ × Unit {0}) Bool} {s : Range ℕ} where
+  pub any_range : (test : ℕ → Bool) (n : ℕ) (u : Range ℕ) (f : F) (r : Bool)
+      → (xs : List ℕ) × (o : Option ℕ) × (j : F) × YieldsThen nat_range_steps s xs o u × FoldsTo (λ p x q. Called g p (x, tt) false q) f xs j
+      × MatchOption o (r ≡ false) (λ x. (r ≡ true) × ((h : F) × Called g j (x, tt) true h))
+      → s ≡ record { start = 0; end = n } → ((x : ℕ) (b : Bool) (q : F) → Called g f (x, tt) b q → (q ≡ f) × (b ≡ test x))
+      → r ≡ any test (up_from 0 n)
+  any_range test n u f r ran e step =
+      any_from_yields_List test u f r ran (YieldsList-from_range 0 n n e (omega arith)) step
+      ∙ any-list_any test (range_with_len 0 n)
+      ∙ ap (any test) (range-up_from 0 n)
 
 module _ {A : Type 0} (k : ℕ) (pos : 0 < k) where
   cut_step : (xs : List A) → k ≤ length xs → cut k xs ≡ take k xs ∷ cut k (drop k xs)

@@ -14,9 +14,9 @@ use Rattle.rules.specs.Lists.{any, up_from, has}
 use Rattle.rules.specs.Mesh.{Mesh}
 use Rattle.lists.proofs.Membership.{in_up_from, up_from_shift}
 use Rattle.lists.proofs.Tests.{any_turn, any_map, any_same, or_true, or_false}
-use Rattle.numbering.proofs.Firsts.{firsts_get_or}
 use Rattle.checks.specs.Held.{isolated_in}
 use Rattle.checks.specs.Marked.{Marked}
+use Rattle.checks.proofs.Library.{any_places}
 
 pub mark_start : (first x : ℕ) (w table : List ℕ) → Marked first x w w (take 0 table)
 unfolding has any
@@ -53,10 +53,6 @@ module _ {first x : ℕ} {old new : List ℕ} (table : List ℕ) (i : ℕ) (m : 
 
 -- ---- four tables, one after the other
 
--- a list by its places
-any_places : (p : ℕ → Bool) (xs : List ℕ) → any p xs ≡ any (λ (v : ℕ). p (get_or xs v 0)) (up_from 0 (length xs))
-any_places p xs = ap (any p) (sym (firsts_get_or xs 0)) ∙ any_map p (λ (v : ℕ). get_or xs v 0) (up_from 0 (length xs))
-
 -- a window by its first vertex
 any_shift : (p : ℕ → Bool) (first n : ℕ) → any (λ (v : ℕ). p (first + v)) (up_from 0 n) ≡ any p (up_from first n)
 any_shift p first n =
@@ -83,7 +79,7 @@ module _ (first n : ℕ) (m : Mesh) {w₀ w₁ w₂ w₃ w₄ : List ℕ} (start
   pub isolated_by_marks : any (eqb 0) w₄ ≡ any (isolated_in m) (up_from first n)
   isolated_by_marks =
       let k = marks_kept in
-      any_places (eqb 0) w₄
+      sym (any_places (eqb 0) w₄ 0)
       ∙ ap (λ (l : ℕ). any (λ (v : ℕ). eqb 0 (get_or w₄ v 0)) (up_from 0 l)) k.4
       ∙ any_same (λ (v : ℕ). eqb 0 (get_or w₄ v 0)) (λ (v : ℕ). isolated_in m (first + v)) (up_from 0 n)
       (λ v i.

@@ -3,7 +3,7 @@ use mathlib.Core.Path.{◌≡◌, ap, ◌∙◌}
 use mathlib.Core.Bool.{true, false, not, ◌&&◌}
 use mathlib.Core.List.{List, []}
 use Prim.Native.Nat.{ℕ, ◌<◌}
-use lib.Dec.{eqb, lit<}
+use lib.Dec.{eqb}
 use lib.ListN.{length, get_or}
 use borrow.Author.Tests.{eq-eqb, ne_eqb}
 use Rattle.rules.specs.Lists.{any, key_of, same}
@@ -24,7 +24,6 @@ use Rattle.tables.specs.declared.MeshTables.{MeshTables}
 use Rattle.tables.specs.Lent.{mesh_in}
 use Rattle.checks.specs.Walk.{parts_met}
 use Rattle.checks.specs.Classes.{Agreeing, Apart}
-use Rattle.checks.proofs.WalkLaws.{met_mesh}
 
 module _ (t : Topology) (z : Sized t) (h₅ : repeated_corner t ≡ false) where
   -- two faces of the walk
@@ -62,4 +61,4 @@ module _ (p : PlainMesh) (i j : ℕ) (k : i < length (parts_met Face p.tables)) 
   mismatched_at =
       let m = mesh_in p.tables in
       mismatched_in (topology m) (mesh_sized m) p.plain (get_or F i []) (get_or F j [])
-      (rw (met_mesh 2 (lit< tt) m) (get_or_in F i [] k)) (rw (met_mesh 2 (lit< tt) m) (get_or_in F j [] l))
+      (get_or_in F i [] k) (get_or_in F j [] l)

@@ -26,7 +26,7 @@ use Rattle.checks.specs.Held.{within}
 use Rattle.checks.specs.declared.parts.Part.TheVariants.{Edge, Face}
 use Rattle.checks.specs.Walk.{dimension, size_of, parts_met}
 use Rattle.checks.proofs.CornerSets.{within_same}
-use Rattle.checks.proofs.WalkLaws.{some_dimension, met_mesh, length_part}
+use Rattle.checks.proofs.WalkLaws.{length_part}
 
 once_met : (t : Topology) → Sized t → repeated_corner t ≡ false → (d : ℕ) → In d dimensions → (p : List ℕ) → In p (met t d) → Once p
 unfolding corners_at repeated_corner
@@ -50,13 +50,12 @@ module _ (of : Part) (t : MeshTables) (i : ℕ) (l : i < length (parts_met of t)
   listed = get_or_in (parts_met of t) i [] l
 
   pub part_size : length (get_or (parts_met of t) i []) ≡ size_of of
-  part_size = length_part of t.hexes.now t.quads.now t.segments.now (get_or (parts_met of t) i []) listed
+  part_size = length_part of (mesh_in t) (get_or (parts_met of t) i []) listed
 
   part_plain : repeated_corner (topology (mesh_in t)) ≡ false → repeats eqb (get_or (parts_met of t) i []) ≡ false
   part_plain h =
       once_repeats_numbers (get_or (parts_met of t) i [])
-      (once_met (topology (mesh_in t)) (mesh_sized (mesh_in t)) h (dimension of) (among of) (get_or (parts_met of t) i [])
-      (rw (met_mesh (dimension of) (some_dimension of) (mesh_in t)) listed))
+      (once_met (topology (mesh_in t)) (mesh_sized (mesh_in t)) h (dimension of) (among of) (get_or (parts_met of t) i []) listed)
 
 -- two of them have one corner set just where each corner of the one is a corner of the other
 module _ (of : Part) (m : PlainMesh) (i j : ℕ) (li : i < length (parts_met of m.tables)) (lj : j < length (parts_met of m.tables)) where

@@ -21,7 +21,6 @@ use Rattle.std.specs.Prelude.{Result, Ok, Err}
 use Rattle.checks.specs.declared.tagged.Stopped.{Stopped}
 use Rattle.checks.specs.declared.tagged.Stopped.TheVariants.{Differs, Full}
 use Rattle.checks.specs.declared.classes.Walk.{Walk}
-use Rattle.checks.specs.declared.classes.Class.{Class}
 use Rattle.checks.specs.Tagged.{front, beside, Tagged, Agreed, Differed}
 use Rattle.checks.specs.Classes.{tag_for, class_of, in_class, ClassMet, Agreeing, Apart, Found}
 use Rattle.checks.proofs.ClassLaws.{class_key, class_below, class_distinct, keep_below, keep_next, keep_none, keep_all}
@@ -107,67 +106,55 @@ module _ {A : Type 0} (t : A → Bool) where
   keep_snoc xs x = keep_append xs (x ∷ [])
 
 -- the first i of ps were looked at
-pub record Sweeping (of : Walk) (class : Class) (ps : List (List ℕ)) (c : ℕ) (w : List ℕ) (room n i : ℕ) : Type 0 where
+pub record Sweeping (of : Walk) (class : List ℕ → Bool) (ps : List (List ℕ)) (c : ℕ) (w : List ℕ) (room n i : ℕ) : Type 0 where
   pub below : i ≤ length ps
-  swept : Swept of (keep (in_class class) (take i ps)) c w room n
+  swept : Swept of (keep class (take i ps)) c w room n
 
-pub sweep_tagged : {of : Walk} {class : Class} {ps : List (List ℕ)} {c : ℕ} {w : List ℕ} {room n i : ℕ} → Sweeping of class ps c w room n i
+pub sweep_tagged : {of : Walk} {class : List ℕ → Bool} {ps : List (List ℕ)} {c : ℕ} {w : List ℕ} {room n i : ℕ} → Sweeping of class ps c w room n i
     → Tagged c w room n
 sweep_tagged s = s.swept.tagged
 
-pub sweep_start : (of : Walk) (class : Class) (ps : List (List ℕ)) {c : ℕ} {w : List ℕ} {room : ℕ} → Tagged c w room 0
+pub sweep_start : (of : Walk) (class : List ℕ → Bool) (ps : List (List ℕ)) {c : ℕ} {w : List ℕ} {room : ℕ} → Tagged c w room 0
     → Sweeping of class ps c w room 0 0
 unfolding keys up_from distinct meet_all keep
 sweep_start of class ps t = record { below = omega arith; swept = record { tagged = t; keys_are = refl; agree = λ p i. absurd i } }
 
-module _ {of : Walk} {class : Class} {ps : List (List ℕ)} {c : ℕ} {w : List ℕ} {room n i : ℕ} (s : Sweeping of class ps c w room n i) (l : i < length ps) where
+module _ {of : Walk} {class : List ℕ → Bool} {ps : List (List ℕ)} {c : ℕ} {w : List ℕ} {room n i : ℕ} (s : Sweeping of class ps c w room n i) (l : i < length ps) where
   abbrev this : List ℕ
   this = get_or ps i []
 
-  next : keep (in_class class) (take (i + 1) ps) ≡ keep (in_class class) (take i ps) ++ cond (in_class class this) (this ∷ []) []
-  next = rw (add-one i, take-suc ps i [] l) (keep_snoc (in_class class) (take i ps) this)
+  next : keep class (take (i + 1) ps) ≡ keep class (take i ps) ++ cond (class this) (this ∷ []) []
+  next = rw (add-one i, take-suc ps i [] l) (keep_snoc class (take i ps) this)
 
-  -- what was read is this one, and so many corners
-  module _ {w' p : List ℕ} {k : ℕ} (e : p ≡ get_or ps i []) (d : k ≡ c) {r : Result ℕ Stopped} (met : ClassMet class p k w w' room n (tag_for of p) r) where
-    this_met : (a : Result ℕ Stopped) → r ≡ a → ClassMet class this c w w' room n (tag_for of this) a
-    this_met a f = rw (e, d, f) at met
-
-  pub sweep_turn : {w' p : List ℕ} {k count : ℕ} {r : Result ℕ Stopped} → p ≡ get_or ps i [] → k ≡ c → r ≡ Ok count
-      → ClassMet class p k w w' room n (tag_for of p) r → Sweeping of class ps c w' room count (i + 1)
-  sweep_turn {w'} {p} {k} {count} {r} e d f met = record { below = omega arith; swept = rw next (go (in_class class this) refl) }
+  pub sweep_turn : {w' : List ℕ} {count : ℕ} {r : Result ℕ Stopped} → r ≡ Ok count → ClassMet class this c w w' room n (tag_for of this) r
+      → Sweeping of class ps c w' room count (i + 1)
+  sweep_turn {w'} {count} e met = record { below = omega arith; swept = rw next (go (class this) refl) }
     where
       here : ClassMet class this c w w' room n (tag_for of this) (Ok count)
-      here = this_met e d met (Ok count) f
+      here = rw e at met
 
-      go : (b : Bool) → in_class class this ≡ b → Swept of (keep (in_class class) (take i ps) ++ cond b (this ∷ []) []) c w' room count
+      go : (b : Bool) → class this ≡ b → Swept of (keep class (take i ps) ++ cond b (this ∷ []) []) c w' room count
       go true e = swept_turn s.swept this (here.inside e)
       go false e =
           let o = here.outside e in
-          rw (append-nil (keep (in_class class) (take i ps)), o.0, o.1) s.swept
+          rw (append-nil (keep class (take i ps)), o.0, o.1) s.swept
 
   -- where it stops, it stops for the class
-  pub sweep_stops : {w' p : List ℕ} {k : ℕ} → p ≡ get_or ps i [] → k ≡ c → (r : Stopped)
-      → ClassMet class p k w w' room n (tag_for of p) (Err r) → Found of (keep (in_class class) ps) (Err r)
-  sweep_stops {w'} {p} {k} e d Differs met = go (in_class class this) refl
+  pub sweep_stops : {w' : List ℕ} (r : Stopped) → ClassMet class this c w w' room n (tag_for of this) (Err r) → Found of (keep class ps) (Err r)
+  sweep_stops Differs met = go (class this) refl
     where
-      here : ClassMet class this c w w' room n (tag_for of this) (Err Differs)
-      here = this_met e d met (Err Differs) refl
-
-      go : (b : Bool) → in_class class this ≡ b → Apart of (keep (in_class class) ps)
+      go : (b : Bool) → class this ≡ b → Apart of (keep class ps)
       go true e =
-          swept_differs s.swept this (here.inside e) (keep (in_class class) ps) (keep_in (in_class class) ps this (get_or_in ps i [] l) e)
-          (λ q j. let k = in_keep (in_class class) (take i ps) q j in keep_in (in_class class) ps q (take_in ps i q k.0) k.1)
-      go false e = absurd (here.outside e)
-  sweep_stops e d Full met = tt
+          swept_differs s.swept this (met.inside e) (keep class ps) (keep_in class ps this (get_or_in ps i [] l) e)
+          (λ q j. let k = in_keep class (take i ps) q j in keep_in class ps q (take_in ps i q k.0) k.1)
+      go false e = absurd (met.outside e)
+  sweep_stops Full met = tt
 
-pub sweep_end : {of : Walk} {class : Class} {ps : List (List ℕ)} {c : ℕ} {w : List ℕ} {room n i : ℕ} → Sweeping of class ps c w room n i → length ps ≤ i
-    → Agreeing of (keep (in_class class) ps) n
+pub sweep_end : {of : Walk} {class : List ℕ → Bool} {ps : List (List ℕ)} {c : ℕ} {w : List ℕ} {room n i : ℕ} → Sweeping of class ps c w room n i → length ps ≤ i
+    → Agreeing of (keep class ps) n
 sweep_end {of} {class} {ps} {c} {w} {room} {n} {i} s h = rw (take_all i ps h) at (swept_end s.swept)
 
 -- ---- all classes
-
-abbrev pub this_class : ℕ → ℕ → Class
-this_class m class = record { number = class; count = m }
 
 -- in the classes below `class` there are n corner sets, and what has one corner set has one tag
 pub record Totalling (of : Walk) (m : ℕ) (ps : List (List ℕ)) (n class : ℕ) : Type 0 where
@@ -183,10 +170,10 @@ total_start of m ps = record {
 }
 
 module _ {of : Walk} {m : ℕ} {ps : List (List ℕ)} {n class : ℕ} (t : Totalling of m ps n class) where
-  pub total_turn : class < m → {more : ℕ} → Agreeing of (keep (in_class (this_class m class)) ps) more → Totalling of m ps (n + more) (class + 1)
+  pub total_turn : class < m → {more : ℕ} → Agreeing of (keep (in_class m class) ps) more → Totalling of m ps (n + more) (class + 1)
   total_turn h {more} a = record {
     below = omega arith;
-    total_is = rw (t.total_is, a.count_is ∙ class_distinct (this_class m class) ps) (keep_next (class_of m) class (distinct (map key_of ps)));
+    total_is = rw (t.total_is, a.count_is ∙ class_distinct m class ps) (keep_next (class_of m) class (distinct (map key_of ps)));
     agree = λ p q i j e l. ⊎_elim
         (λ (b : ltb (class_of m p) class ≡ true). t.agree p q i j e (ltb-true (class_of m p) class b))
         (λ (b : ltb (class_of m p) class ≡ false). last p q i j e (omega (arith, l, ltb-false (class_of m p) class b)))
@@ -196,8 +183,8 @@ module _ {of : Walk} {m : ℕ} {ps : List (List ℕ)} {n class : ℕ} (t : Total
       last : (p q : List ℕ) → In p ps → In q ps → key_of p ≡ key_of q → class_of m p ≡ class → tag_for of p ≡ tag_for of q
       last p q i j e x =
           let y : class_of m q ≡ class = sym (class_key m q) ∙ ap (class_of m) (sym e) ∙ class_key m p ∙ x in
-          a.agree p q (keep_in (in_class (this_class m class)) ps p i (eq-eqb (class_of m p) class x))
-          (keep_in (in_class (this_class m class)) ps q j (eq-eqb (class_of m q) class y)) e
+          a.agree p q (keep_in (in_class m class) ps p i (eq-eqb (class_of m p) class x))
+          (keep_in (in_class m class) ps q j (eq-eqb (class_of m q) class y)) e
 
   -- there are no more of them than places
   pub total_few : n ≤ length ps
@@ -218,12 +205,12 @@ module _ {of : Walk} {m : ℕ} {ps : List (List ℕ)} {n class : ℕ} (t : Total
       }
 
 -- what differs in a class differs; and what is left open is left open
-pub found_all : (of : Walk) (class : Class) (ps : List (List ℕ)) (e : Stopped) → Found of (keep (in_class class) ps) (Err e) → Found of ps (Err e)
+pub found_all : (of : Walk) (class : List ℕ → Bool) (ps : List (List ℕ)) (e : Stopped) → Found of (keep class ps) (Err e) → Found of ps (Err e)
 found_all of class ps Differs a = record {
   one = a.one;
   other = a.other;
-  one_in = (in_keep (in_class class) ps a.one a.one_in).0;
-  other_in = (in_keep (in_class class) ps a.other a.other_in).0;
+  one_in = (in_keep class ps a.one a.one_in).0;
+  other_in = (in_keep class ps a.other a.other_in).0;
   keys = a.keys;
   tags = a.tags;
 }

@@ -2,6 +2,7 @@
 use mathlib.Core.Path.{◌≡◌, refl, sym, ap, ◌∙◌}
 use mathlib.Core.Logic.{⊎_elim}
 use mathlib.Core.List.{List, [], ◌∷◌, ◌++◌, map, append-nil}
+use Rattle.std.specs.Prelude.{ℤ}
 use Prim.Native.Nat.{ℕ, zero, suc, ◌+◌, ◌-◌, ◌*◌, ◌/◌, ◌%◌, ◌≤◌, ◌<◌}
 use native.Mathlib.Nat.{mul-le-mul_right, mod-lt, div-lt_iff_lt-mul, div-add-mod', mul-le-mul_left, mul-div-le}
 use native.Mathlib.Omega.{arith}
@@ -10,7 +11,7 @@ use lib.ListN.{length, get_or, length-append, length-map, get_or-append}
 use lib.Seq.{get_or-append-add}
 use Rattle.rules.specs.Lists.{concat_map, cut, up_from}
 use Rattle.rules.specs.Mesh.{Mesh, Kind, hex, quad, segment, point, corners, mesh, topology, singles, whole, by_dimension, places, place_of}
-use Rattle.rules.specs.Split.{corners_at, met, distinct_parts}
+use Rattle.rules.specs.Split.{corners_at, met}
 use Rattle.lists.specs.Membership.{In}
 use Rattle.lists.proofs.Membership.{in_append, in_map, in_concat_map, get_or_map}
 use Rattle.lists.proofs.Once.{length_concat_map}
@@ -22,7 +23,7 @@ use Rattle.numbering.specs.Parts.{places_of, part_corners, cell_corners, table_k
 use Rattle.numbering.proofs.Places.{part_size, place_below, length_table_keys}
 use Rattle.checks.specs.declared.parts.Part.{Part}
 use Rattle.checks.specs.declared.parts.Part.TheVariants.{Edge, Face}
-use Rattle.checks.specs.Walk.{parts_of, parts_in, met_in, count_in, dimension, size_of, Named}
+use Rattle.checks.specs.Walk.{parts_of, parts_in, dimension, size_of, Named}
 
 -- ---- lists that are joined from lists of one length
 
@@ -151,15 +152,7 @@ pub met_tables : (d : ℕ) → 0 < d → (m : Mesh)
 unfolding met topology parts_of concat_map
 met_tables d h m = rw (no_points d h (cut 1 m.points), append-nil (parts_of segment d m.segments))
 
-pub met_mesh : (d : ℕ) → 0 < d → (m : Mesh) → met (topology m) d ≡ met_in d m.hexes m.quads m.segments
-met_mesh d h m = met_tables d h m ∙ sym (met_tables d h (mesh [] m.hexes m.quads m.segments []))
-
--- the count is that of the mesh
-pub count_mesh : (d : ℕ) → 0 < d → (m : Mesh) → count_in d m.hexes m.quads m.segments ≡ length (distinct_parts (topology m) d)
-unfolding distinct_parts
-count_mesh d h m = rw (met_mesh d h m)
-
-module _ (of : Part) (hs qs ss : List ℕ) where
+module _ (of : Part) (vs : List ℤ) (hs qs ss ps : List ℕ) where
   abbrev d : ℕ
   d = dimension of
 
@@ -172,10 +165,13 @@ module _ (of : Part) (hs qs ss : List ℕ) where
   abbrev S : List (List ℕ)
   S = parts_of segment d ss
 
-  pub met_is : met_in d hs qs ss ≡ H ++ (Q ++ S)
-  met_is = met_tables d (some_dimension of) (mesh [] hs qs ss [])
+  abbrev walk : List (List ℕ)
+  walk = met (topology (mesh vs hs qs ss ps)) d
 
-  pub length_met : length (met_in d hs qs ss) ≡ length H + (length Q + length S)
+  met_is : walk ≡ H ++ (Q ++ S)
+  met_is = met_tables d (some_dimension of) (mesh vs hs qs ss ps)
+
+  pub length_met : length walk ≡ length H + (length Q + length S)
   length_met = ap length met_is ∙ length-append H (Q ++ S) ∙ ap (λ (n : ℕ). length H + n) (length-append Q S)
 
   -- by the numbering's names, with the counts of two tables
@@ -184,7 +180,7 @@ module _ (of : Part) (hs qs ss : List ℕ) where
     hexes_are = rw (nh.kind, nh.dim)
 
     module _ (i a : ℕ) (ea : a ≡ length (parts_in h hs)) where
-      pub met_hex : i < a → get_or (parts_in h hs) i [] ≡ get_or (met_in d hs qs ss) i []
+      pub met_hex : i < a → get_or (parts_in h hs) i [] ≡ get_or walk i []
       met_hex l =
           ap (λ (ps : List (List ℕ)). get_or ps i []) hexes_are
           ∙ sym (ap (λ (ps : List (List ℕ)). get_or ps i []) met_is ∙ get_or-append H (Q ++ S) [] i (rw (ea, hexes_are) at l))
@@ -193,11 +189,11 @@ module _ (of : Part) (hs qs ss : List ℕ) where
         quads_are : parts_in q qs ≡ Q
         quads_are = rw (nq.kind, nq.dim)
 
-        pub met_quad : i - a < b → get_or (parts_in q qs) (i - a) [] ≡ get_or (met_in d hs qs ss) i []
+        pub met_quad : i - a < b → get_or (parts_in q qs) (i - a) [] ≡ get_or walk i []
         met_quad l =
             let e : length H + (i - a) ≡ i = omega (arith, ea, ap length hexes_are) in
             ap (λ (ps : List (List ℕ)). get_or ps (i - a) []) quads_are
-            ∙ sym (ap (λ (n : ℕ). get_or (met_in d hs qs ss) n []) (sym e)
+            ∙ sym (ap (λ (n : ℕ). get_or walk n []) (sym e)
             ∙ ap (λ (ps : List (List ℕ)). get_or ps (length H + (i - a)) []) met_is
             ∙ get_or-append-add H (Q ++ S) (i - a) []
             ∙ get_or-append Q S [] (i - a) (rw (eb, quads_are) at l))
@@ -206,20 +202,20 @@ module _ (of : Part) (hs qs ss : List ℕ) where
           segments_are : parts_in s ss ≡ S
           segments_are = rw (ns.kind, ns.dim)
 
-          pub met_segment : get_or (parts_in s ss) (i - a - b) [] ≡ get_or (met_in d hs qs ss) i []
+          pub met_segment : get_or (parts_in s ss) (i - a - b) [] ≡ get_or walk i []
           met_segment =
               let e : length H + (length Q + (i - a - b)) ≡ i = omega (arith, ea, eb, ap length hexes_are, ap length quads_are) in
               ap (λ (ps : List (List ℕ)). get_or ps (i - a - b) []) segments_are
-              ∙ sym (ap (λ (n : ℕ). get_or (met_in d hs qs ss) n []) (sym e)
+              ∙ sym (ap (λ (n : ℕ). get_or walk n []) (sym e)
               ∙ ap (λ (ps : List (List ℕ)). get_or ps (length H + (length Q + (i - a - b))) []) met_is
               ∙ get_or-append-add H (Q ++ S) (length Q + (i - a - b)) []
               ∙ get_or-append-add Q S (i - a - b) [])
 
-          pub segment_below : i < length (met_in d hs qs ss) → i - a - b < length (parts_in s ss)
+          pub segment_below : i < length walk → i - a - b < length (parts_in s ss)
           segment_below l = omega (arith, length_met, ea, eb, ap length hexes_are, ap length quads_are, ap length segments_are)
 
   pub length_named : {h q s : Parts} → Named of hex h → Named of quad q → Named of segment s
-      → length (table_keys h hs) + length (table_keys q qs) + length (table_keys s ss) ≡ length (met_in d hs qs ss)
+      → length (table_keys h hs) + length (table_keys q qs) + length (table_keys s ss) ≡ length walk
   length_named {h} {q} {s} nh nq ns =
       rw (all_counted h hs, all_counted q qs, all_counted s ss, nh.kind, nh.dim, nq.kind, nq.dim, ns.kind, ns.dim) (omega (arith, length_met))
 
@@ -242,11 +238,14 @@ shaped Face quad = computed (shaped? Face quad) tt
 shaped Face segment = computed (shaped? Face segment) tt
 shaped Face point = computed (shaped? Face point) tt
 
-pub length_part : (of : Part) (hs qs ss p : List ℕ) → In p (met_in (dimension of) hs qs ss) → length p ≡ size_of of
+pub length_part : (of : Part) (m : Mesh) (p : List ℕ) → In p (met (topology m) (dimension of)) → length p ≡ size_of of
 unfolding parts_of corners_at
-length_part of hs qs ss p i =
-    ⊎_elim (in_table hex hs) (λ (j : In p (Q of hs qs ss ++ S of hs qs ss)). ⊎_elim (in_table quad qs) (in_table segment ss) (in_append p (Q of hs qs ss) (S of hs qs ss) j))
-    (in_append p (H of hs qs ss) (Q of hs qs ss ++ S of hs qs ss) (rw (met_is of hs qs ss) at i))
+length_part of m p i =
+    let d = dimension of in
+    let Q = parts_of quad d m.quads in
+    let S = parts_of segment d m.segments in
+    ⊎_elim (in_table hex m.hexes) (λ (j : In p (Q ++ S)). ⊎_elim (in_table quad m.quads) (in_table segment m.segments) (in_append p Q S j))
+    (in_append p (parts_of hex d m.hexes) (Q ++ S) (rw (met_tables d (some_dimension of) m) at i))
   where
     in_table : (κ : Kind) (table : List ℕ) → In p (parts_of κ (dimension of) table) → length p ≡ size_of of
     in_table κ table j =

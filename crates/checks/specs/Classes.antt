@@ -9,7 +9,6 @@ use Rattle.checks.specs.declared.tagged.Stopped.TheVariants.{Differs, Full}
 use Rattle.checks.specs.declared.parts.Part.TheVariants.{Edge, Face}
 use Rattle.checks.specs.declared.classes.Walk.{Walk}
 use Rattle.checks.specs.declared.classes.Walk.TheVariants.{Edges, Faces, Cells}
-use Rattle.checks.specs.declared.classes.Class.{Class}
 use Rattle.checks.specs.Walk.{size_of, parts_met}
 use Rattle.checks.specs.Tagged.{TagMet, counted}
 
@@ -21,11 +20,15 @@ walked (Edges mesh) k = parts_met Edge mesh
 walked (Faces mesh) k = parts_met Face mesh
 walked (Cells cells) k = cut k cells.now
 
--- each has k corners
+-- how many corners one has; cells are free to have any number
+abbrev pub corners_of : Walk → ℕ → ℕ
+corners_of (Edges mesh) k = size_of Edge
+corners_of (Faces mesh) k = size_of Face
+corners_of (Cells cells) k = k
+
+-- each has k corners, and not too many to add up their squares
 abbrev pub Size : Walk → ℕ → Type 0
-Size (Edges mesh) k = k ≡ size_of Edge
-Size (Faces mesh) k = k ≡ size_of Face
-Size (Cells cells) k = (0 < k) × (k ≤ 8)
+Size of k = (k ≡ corners_of of k) × (0 < k) × (k ≤ 8)
 
 -- what tells two apart that have one corner set: of faces that go round, the corner across the least
 abbrev pub tag_for : Walk → List ℕ → ℕ
@@ -47,8 +50,9 @@ total (x ∷ xs) = squared x + total xs
 unfoldable pub class_of : ℕ → List ℕ → ℕ
 class_of m p = total p % 2 ^ 32 * 1640531527 % 2 ^ 32 * m / 2 ^ 32
 
-abbrev pub in_class : Class → List ℕ → Bool
-in_class class p = eqb (class_of class.count p) class.number
+-- the class of this number among m
+abbrev pub in_class : ℕ → ℕ → List ℕ → Bool
+in_class m number p = eqb (class_of m p) number
 
 -- nothing is met
 abbrev pub Skipped : List ℕ → List ℕ → ℕ → Result ℕ Stopped → Type 0
@@ -56,12 +60,12 @@ Skipped w w' n (Ok count) = (count ≡ n) × (w' ≡ w)
 Skipped w w' n (Err e) = ⊥
 
 -- corners p are met if they are in the class, and passed over if not
-pub record ClassMet (class : Class) (p : List ℕ) (c : ℕ) (w w' : List ℕ) (room n t : ℕ) (r : Result ℕ Stopped) : Type 0 where
-  pub inside : in_class class p ≡ true → TagMet c w w' room n (key_of p) t r
-  pub outside : in_class class p ≡ false → Skipped w w' n r
+pub record ClassMet (class : List ℕ → Bool) (p : List ℕ) (c : ℕ) (w w' : List ℕ) (room n t : ℕ) (r : Result ℕ Stopped) : Type 0 where
+  pub inside : class p ≡ true → TagMet c w w' room n (key_of p) t r
+  pub outside : class p ≡ false → Skipped w w' n r
 
 -- the same of a table as a value
-abbrev pub CornersMet : Class → ℕ → TaggedKeys → TaggedKeys → List ℕ → ℕ → Result (Unit {0}) Stopped → Type 0
+abbrev pub CornersMet : (List ℕ → Bool) → ℕ → TaggedKeys → TaggedKeys → List ℕ → ℕ → Result (Unit {0}) Stopped → Type 0
 CornersMet class c old new p t r = ClassMet class p c old.words.now new.words.now old.room old.known t (counted r new.known)
 
 -- ---- what is found

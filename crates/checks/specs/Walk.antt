@@ -1,11 +1,12 @@
 -- Words of inner contracts: the parts that the walk of a mesh meets, table by table, in words of the rules.
-use Rattle.std.specs.Prelude.{◌≡◌, List, [], map, ℕ, length}
+use Rattle.std.specs.Prelude.{◌≡◌, List, map, ℕ, length}
 use Rattle.rules.specs.Lists.{concat_map, cut, key_of, distinct}
-use Rattle.rules.specs.Mesh.{Kind, corners, mesh, topology, places}
+use Rattle.rules.specs.Mesh.{Kind, corners, topology, places}
 use Rattle.rules.specs.Split.{corners_at, met}
 use Rattle.numbering.specs.declared.parts.Parts.{Parts}
 use Rattle.numbering.specs.Parts.{kind_of, dimension_of}
 use Rattle.tables.specs.declared.MeshTables.{MeshTables}
+use Rattle.tables.specs.Lent.{mesh_in}
 use Rattle.checks.specs.declared.parts.Part.{Part}
 use Rattle.checks.specs.declared.parts.Part.TheVariants.{Edge, Face}
 
@@ -16,14 +17,6 @@ parts_of κ d table = concat_map (λ (cell : List ℕ). map (corners_at cell) (p
 -- the same by the numbering's names
 abbrev pub parts_in : Parts → List ℕ → List (List ℕ)
 parts_in of table = parts_of (kind_of of) (dimension_of of) table
-
--- the edges (d = 1) or faces (d = 2) of the cells of three tables: points have neither, and positions do not matter
-abbrev pub met_in : ℕ → List ℕ → List ℕ → List ℕ → List (List ℕ)
-met_in d hexes quads segments = met (topology (mesh [] hexes quads segments [])) d
-
--- how many different ones
-abbrev pub count_in : ℕ → List ℕ → List ℕ → List ℕ → ℕ
-count_in d hexes quads segments = length (distinct (map key_of (met_in d hexes quads segments)))
 
 -- ---- edges and faces
 
@@ -43,7 +36,7 @@ pub record Named (of : Part) (κ : Kind) (parts : Parts) : Type 0 where
 
 -- those of a mesh, and how many different ones
 abbrev pub parts_met : Part → MeshTables → List (List ℕ)
-parts_met of t = met_in (dimension of) t.hexes.now t.quads.now t.segments.now
+parts_met of t = met (topology (mesh_in t)) (dimension of)
 
 abbrev pub parts_counted : Part → MeshTables → ℕ
-parts_counted of t = count_in (dimension of) t.hexes.now t.quads.now t.segments.now
+parts_counted of t = length (distinct (map key_of (parts_met of t)))

@@ -25,12 +25,7 @@ pub fn has_number(x: u32, ys: &[u32]) -> bool
 pub fn has_repeat(cell: &[u32]) -> bool
     ensures { result ≡ repeats eqb cell.now }
 {
-    for i in 0..cell.len() {
-        if has_number(cell[i], &cell[i + 1..]) {
-            return true;
-        }
-    }
-    false
+    (0..cell.len()).any(|i| has_number(cell[i], &cell[i + 1..]))
 }
 
 // Whether a cell of a table, of C corners each, names a corner twice.
@@ -41,15 +36,16 @@ pub fn any_repeat<const C: usize>(table: &[u32]) -> bool
     table.chunks_exact(C).any(has_repeat)
 }
 
-// Reads the corners of cell i of a table.
+// The corners of cell i of a table, of C corners each.
 #[tactic(auto, using(crate::proofs::Slices::entry_within, crate::proofs::Slices::entry_part))]
-pub fn read(table: &[u32], i: usize, corners: &mut [u32])
-    requires { i < length (cut (length corners.old) table.now) }
-    ensures { corners.new ≡ get_or (cut (length corners.old) table.now) i [] }
+pub fn read<const C: usize>(table: &[u32], i: usize) -> [u32; C]
+    requires { i < length (cut C table.now) }
+    ensures { result ≡ get_or (cut C table.now) i [] }
 {
-    let k = corners.len();
-    let at = k * i;
-    corners.copy_from_slice(&table[at..at + k]);
+    let mut corners = [0u32; C];
+    let at = C * i;
+    corners.copy_from_slice(&table[at..at + C]);
+    corners
 }
 
 // 5, repeated corner (rule 7.5).

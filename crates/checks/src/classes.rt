@@ -8,51 +8,16 @@ ghost use Rattle.checks.specs.Classes.{walked, Size, tag_for, squared, class_of,
 
 use crate::parts::Part;
 use crate::tagged::{Stopped, TaggedKeys};
-use crate::{cells, faces, parts};
+use crate::{cells, faces};
 use tables::MeshTables;
 
-// What is walked: the edges of a mesh; its faces, told apart by how they go round; the cells of a flat table.
+// What is walked: the edges of a mesh; its faces, told apart by how they go round; the cells of a flat table. It is an enum and no trait: no
+// one else adds a kind, and a trait would need three ghost members and a law in place of three definitions by cases.
 #[derive(Clone, Copy)]
 pub enum Walk<'a> {
     Edges(MeshTables<'a>),
     Faces(MeshTables<'a>),
     Cells(&'a [u32]),
-}
-
-// One of so many classes.
-#[derive(Clone, Copy)]
-struct Class {
-    number: usize,
-    count: usize,
-}
-
-// How many edges, faces or cells are walked, each counted as often as it is met; they have C corners each.
-#[tactic(auto, using(lists::proofs::Tables::length_cut))]
-fn count_of<const C: usize>(of: Walk) -> usize
-    requires { Size of C }
-    ensures { result ≡ length (walked of.entry C) }
-{
-    match of {
-        Walk::Edges(mesh) => parts::part_count(Part::Edge, mesh),
-        Walk::Faces(mesh) => parts::part_count(Part::Face, mesh),
-        Walk::Cells(table) => table.len() / C,
-    }
-}
-
-// The corners of number i of them. Each kind has a call of its own: so the compiler knows how many parts a cell has.
-fn corners_at<const C: usize>(of: Walk, i: usize) -> [u32; C]
-    requires few { C ≤ 8 }
-    requires size { Size of C }
-    requires i_in_bounds { i < length (walked of C) }
-    ensures { result ≡ get_or (walked of.entry C) i [] }
-{
-    let mut corners = [0u32; C];
-    match of {
-        Walk::Edges(mesh) => parts::read(Part::Edge, mesh, i, &mut corners),
-        Walk::Faces(mesh) => parts::read(Part::Face, mesh, i, &mut corners),
-        Walk::Cells(table) => cells::read(table, i, &mut corners),
-    }
-    corners
 }
 
 fn square(x: u32) -> usize
@@ -70,97 +35,125 @@ fn class_of(corners: &[u32], classes: usize) -> usize
     if classes == 1 {
         return 0;
     }
-    let mut sum = 0;
-    for corner in corners {
-        sum += square(*corner);
-    }
+    let sum = corners.iter().map(|corner| square(*corner)).sum::<usize>();
     sum % 4294967296 * 1640531527 % 4294967296 * classes / 4294967296
 }
 
-// What tells two apart that have one corner set.
-fn tag_of(of: Walk, corners: &[u32]) -> u32
-    requires { Size of (length corners.now) }
-    ensures { result ≡ tag_for of.entry corners.now }
-{
-    match of {
-        Walk::Faces(_) => faces::across([corners[0], corners[1], corners[2], corners[3]]),
-        Walk::Edges(_) | Walk::Cells(_) => 0,
-    }
-}
-
-// Meets corners in a table if they are in the class.
-fn meet_in_class<const C: usize>(
-    table: &mut TaggedKeys,
-    of: Walk,
-    corners: [u32; C],
-    class: Class,
-) -> Result<(), Stopped>
-    requires few { C ≤ 8 }
-    requires size { Size of C }
-    requires classes_bound { class.count ≤ 1024 }
-    requires holds { Holds C table.old }
-    ensures same_table { SameTable table.old table.new }
-    ensures met { CornersMet class C table.old table.new corners.entry (tag_for of.entry corners.entry) result }
-{
-    if class_of(&corners, class.count) != class.number {
-        return Ok(());
-    }
-    let tag = tag_of(of, &corners);
-    table.meet_corners(corners, tag)
-}
-
-// Goes over one class, of so many that are walked in all; the answer is how many corner sets it has.
-#[tactic(auto, using(crate::proofs::Sweeps::sweep_start, crate::proofs::Sweeps::sweep_tagged, crate::proofs::Sweeps::sweep_turn, crate::proofs::Sweeps::sweep_end, crate::proofs::Sweeps::sweep_stops))]
-fn sweep<const C: usize>(
-    w: &mut [u32],
-    of: Walk,
+// One of so many classes.
+#[derive(Clone, Copy)]
+struct Class {
+    number: usize,
     count: usize,
-    class: Class,
-) -> Result<usize, Stopped>
-    requires w_nonzero { 0 < length w.old }
-    requires few { C ≤ 8 }
-    requires size { Size of C }
-    requires count_value { count ≡ length (walked of C) }
-    requires classes_bound { class.count ≤ 1024 }
-    ensures { Found of.entry (keep (in_class class) (walked of.entry C)) result }
-{
-    let mut table = TaggedKeys::new(w, C, count);
-    for i in 0..count {
-        let corners = corners_at::<C>(of, i);
-        meet_in_class(&mut table, of, corners, class)?;
-    }
-    Ok(table.known)
+    ghost few: { count ≤ 1024 },
 }
 
-// Goes over so many classes, one after the other.
-#[tactic(auto, using(crate::proofs::Sweeps::found_all))]
-fn sweep_all<const C: usize>(
-    w: &mut [u32],
-    of: Walk,
+impl Class {
+    // Whether some corners are in it.
+    fn holds(self, corners: &[u32]) -> bool
+        requires { length corners.now ≤ 8 }
+        ensures { result ≡ in_class self.count self.number corners.now }
+    {
+        class_of(corners, self.count) == self.number
+    }
+}
+
+// What is walked, with C corners each, and how many there are, each counted as often as it is met.
+#[derive(Clone, Copy)]
+struct Walked<'a, const C: usize> {
+    of: Walk<'a>,
     count: usize,
-    classes: usize,
-) -> Result<usize, Stopped>
-    requires w_nonzero { 0 < length w.old }
-    requires few { C ≤ 8 }
-    requires size { Size of C }
-    requires count_value { count ≡ length (walked of C) }
-    requires classes_in_range { (0 < classes) × (classes ≤ 1024) }
-    ensures { Found of.entry (walked of.entry C) result }
-{
-    let mut n = 0;
-    for number in 0..classes {
-        let class = Class {
-            number,
-            count: classes,
+    ghost size: { Size of C },
+    ghost count_is: { count ≡ length (walked of C) },
+    ghost few: { count < 2 ^ 64 },
+}
+
+impl<'a, const C: usize> Walked<'a, C> {
+    #[tactic(auto, using(lists::proofs::Tables::length_cut))]
+    fn new(of: Walk<'a>) -> Walked<'a, C>
+        requires { Size of C }
+        ensures { result.of ≡ of.entry }
+    {
+        let count = match of {
+            Walk::Edges(mesh) => Part::Edge.count_all(mesh),
+            Walk::Faces(mesh) => Part::Face.count_all(mesh),
+            Walk::Cells(table) => table.len() / C,
         };
-        n += sweep::<C>(w, of, count, class)?;
+        Walked { of, count }
     }
-    Ok(n)
+
+    // The corners of number i. Each kind has a call of its own: so the compiler knows how many parts a cell has.
+    fn corners_at(self, i: usize) -> [u32; C]
+        requires { i < self.count }
+        ensures { result ≡ get_or (walked self.entry.of C) i [] }
+    {
+        match self.of {
+            Walk::Edges(mesh) => Part::Edge.read(mesh, i),
+            Walk::Faces(mesh) => Part::Face.read(mesh, i),
+            Walk::Cells(table) => cells::read(table, i),
+        }
+    }
+
+    // What tells two apart that have one corner set.
+    fn tag_of(self, corners: [u32; C]) -> u32
+        ensures { result ≡ tag_for self.entry.of corners.entry }
+    {
+        match self.of {
+            Walk::Faces(_) => faces::across([corners[0], corners[1], corners[2], corners[3]]),
+            Walk::Edges(_) | Walk::Cells(_) => 0,
+        }
+    }
+
+    // Meets number i in a table if it is in the class.
+    fn meet(self, i: usize, class: Class, table: &mut TaggedKeys) -> Result<(), Stopped>
+        requires i_in_bounds { i < self.count }
+        requires holds { Holds C table.old }
+        ensures same_table { SameTable table.old table.new }
+        ensures met { let p = get_or (walked self.entry.of C) i [] in
+            CornersMet (in_class class.count class.number) C table.old table.new p (tag_for self.entry.of p) result }
+    {
+        let corners = self.corners_at(i);
+        if !class.holds(&corners) {
+            return Ok(());
+        }
+        table.meet_corners(corners, self.tag_of(corners))
+    }
+
+    // Goes over one class, of so many that are walked in all; the answer is how many corner sets it has.
+    #[tactic(auto, using(crate::proofs::Sweeps::sweep_start, crate::proofs::Sweeps::sweep_tagged, crate::proofs::Sweeps::sweep_turn, crate::proofs::Sweeps::sweep_end, crate::proofs::Sweeps::sweep_stops))]
+    fn sweep(self, w: &mut [u32], class: Class) -> Result<usize, Stopped>
+        requires { 0 < length w.old }
+        ensures { let ps = keep (in_class class.count class.number) (walked self.entry.of C) in Found self.entry.of ps result }
+    {
+        let mut table = TaggedKeys::new(w, C, self.count);
+        // No chain: its closure would change the table, and nothing would be known of it behind the chain.
+        for i in 0..self.count {
+            self.meet(i, class, &mut table)?;
+        }
+        Ok(table.known)
+    }
+
+    // Goes over so many classes, one after the other.
+    #[tactic(auto, using(crate::proofs::Sweeps::found_all))]
+    fn sweep_all(self, w: &mut [u32], classes: usize) -> Result<usize, Stopped>
+        requires w_nonzero { 0 < length w.old }
+        requires classes_in_range { (0 < classes) × (classes ≤ 1024) }
+        ensures { Found self.entry.of (walked self.entry.of C) result }
+    {
+        let mut n = 0;
+        // No chain, as above: its closure would change the lent memory.
+        for number in 0..classes {
+            let class = Class {
+                number,
+                count: classes,
+            };
+            n += self.sweep(w, class)?;
+        }
+        Ok(n)
+    }
 }
 
 // Goes over all of them, of C corners each, in `fewest` classes or more, up to 1024, until each class fits the memory. A class that does not
 // fit is given up before its end: that costs less than one class too many.
-#[tactic(auto, using(crate::proofs::ClassLaws::few_corners))]
 pub fn find<const C: usize>(w: &mut [u32], of: Walk, fewest: usize) -> Result<usize, Stopped>
     requires size { Size of C }
     requires fewest_nonzero { 0 < fewest }
@@ -169,11 +162,11 @@ pub fn find<const C: usize>(w: &mut [u32], of: Walk, fewest: usize) -> Result<us
     if w.is_empty() {
         return Err(Stopped::Full);
     }
-    let count = count_of::<C>(of);
+    let all = Walked::<C>::new(of);
     let mut classes = fewest;
     // The steps grow, so this is no range.
     while classes <= 1024 {
-        match sweep_all::<C>(w, of, count, classes) {
+        match all.sweep_all(w, classes) {
             Err(Stopped::Full) => classes += 1 + classes / 8,
             found => return found,
         }

@@ -1,12 +1,12 @@
 // Checks 1 to 8 over a whole mesh, in order (rules 7.1 to 7.8 of docs/SPECIFICATION.md), and the sizes of a mesh that passes them (rule 5.1).
 //
-// Rests on `numbering` (tables of keys in lent memory) and on the laws of `lists` and `soundness`. Promises: each check is an equation with
-// its test of `rules`, and the first that fails is the refusal. Checks 6 to 8 and the sizes take lent numbers, and the answer never depends
-// on how many there are. They are near-linear with `1 + max(V, 10 H, 6 Q, 4 S, 3 P, 7 (6 H + Q))` numbers, for V vertices, H hexes, Q quads,
-// S segments and P points, and the sizes with `1 + 4 (12 H + 4 Q + S)`; fewer are enough where cells share parts. With k times fewer they
-// walk the tables about k times: checks 6 and 7 and the sizes class by class, check 8 window by window. Where fewer than 8192 are lent and do
-// not do, an array of 8192 numbers on the stack serves instead. Only where that is too little for 1024 classes, each cell or part is
-// compared with each other one. What the lent numbers hold afterwards is left free.
+// Rests on `numbering` (tables of keys in lent memory), `counting` (the ranges of counts) and on the laws of `lists` and `soundness`.
+// Promises: each check is an equation with its test of `rules`, and the first that fails is the refusal. Checks 6 to 8 and the sizes take
+// lent numbers, and the answer never depends on how many there are. They are near-linear with `1 + max(V, 10 H, 6 Q, 4 S, 3 P, 7 (6 H + Q))`
+// numbers, for V vertices, H hexes, Q quads, S segments and P points, and the sizes with `1 + 4 (12 H + 4 Q + S)`; fewer are enough where
+// cells share parts. With k times fewer they walk the tables about k times: checks 6 and 7 and the sizes class by class, check 8 window by
+// window. Where fewer than 8192 are lent and do not do, an array of 8192 numbers on the stack serves instead. Only where that is too little
+// for 1024 classes, each cell or part is compared with each other one. What the lent numbers hold afterwards is left free.
 #![tactic(auto)]
 
 ghost use Rattle.std.specs.Prelude.{◌≡◌, false, map, ◌≤◌, ◌<◌, eqb, length};
@@ -123,7 +123,6 @@ pub fn check_mesh(mesh: MeshTables, words: &mut [u32]) -> Result<usize, Refusal>
 }
 
 // How many edges there are, with these numbers.
-#[tactic(auto, using(crate::proofs::Duplicates::edge_keys_lem))]
 fn edge_count_with(words: &mut [u32], mesh: PlainMesh) -> usize
     ensures { result ≡ parts_counted Part.Edge mesh.entry.tables }
 {

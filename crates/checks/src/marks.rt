@@ -45,6 +45,7 @@ pub fn has_isolated_vertex(w: &mut [u32], n: usize, mesh: MeshTables) -> bool
     ensures { result ≡ any (isolated_in (mesh_in mesh.entry)) (up_from 0 n) }
 {
     let room = w.len();
+    // No chain: its closure would change the lent memory, and nothing would be known of it behind the chain.
     for first in (0..n).step_by(room) {
         let size = room.min(n - first);
         if has_isolated_in_window(&mut w[..size], first, mesh) {

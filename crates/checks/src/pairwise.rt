@@ -1,5 +1,5 @@
 // Checks 6 and 7 and the counts of edges and faces with no memory: each cell, each part is compared with each other one.
-ghost use Rattle.std.specs.Prelude.{◌≡◌, false, [], map, ◌<◌, eqb, length, get_or, take};
+ghost use Rattle.std.specs.Prelude.{◌≡◌, false, [], map, ◌<◌, eqb, length, get_or, take, drop, ◌+◌, ◌/◌};
 ghost use Rattle.rules.specs.Lists.{any, repeats, cut, key_of, same};
 ghost use Rattle.rules.specs.Mesh.{topology};
 ghost use Rattle.rules.specs.Refusals.{mismatched, mismatched_face};
@@ -9,7 +9,7 @@ ghost use Rattle.checks.specs.Held.{within};
 
 use crate::cells::PlainMesh;
 use crate::parts::Part;
-use crate::{cells, faces, parts};
+use crate::{cells, faces};
 
 // Whether each corner of the one is a corner of the other. Of two cells of one size that name no corner twice it tells whether they have
 // one corner set.
@@ -25,13 +25,15 @@ pub fn has_duplicate<const C: usize>(table: &[u32]) -> bool
     requires no_repeated_corner { any (repeats eqb) (cut C table.now) ≡ false }
     ensures { result ≡ repeats same (map key_of (cut C table.now)) }
 {
-    for c in 0..table.len() / C {
-        let (cell, behind) = table[C * c..].split_at(C);
-        if behind.chunks_exact(C).any(|other| is_within(cell, other)) {
-            return true;
-        }
-    }
-    false
+    (0..table.len() / C).any(
+        |c| -> bool
+            requires { (0 < C) × (c < length table.now / C) }
+            ensures { let cells = cut C table.entry.now in result ≡ any (within (get_or cells c [])) (drop (c + 1) cells) }
+        {
+            let (cell, behind) = table[C * c..].split_at(C);
+            behind.chunks_exact(C).any(|other| is_within(cell, other))
+        },
+    )
 }
 
 // Whether the parts i and j have one corner set.
@@ -39,12 +41,11 @@ fn same_parts(of: Part, mesh: PlainMesh, i: usize, j: usize) -> bool
     requires { (i < length (parts_met of mesh.tables)) × (j < length (parts_met of mesh.tables)) }
     ensures { let ps = parts_met of mesh.entry.tables in result ≡ same (key_of (get_or ps i [])) (key_of (get_or ps j [])) }
 {
-    let k = of.corners();
-    let mut a = [0u32; 4];
-    let mut b = [0u32; 4];
-    parts::read(of, mesh.tables, i, &mut a[..k]);
-    parts::read(of, mesh.tables, j, &mut b[..k]);
-    is_within(&a[..k], &b[..k])
+    let t = mesh.tables;
+    match of {
+        Part::Edge => is_within(&of.read::<2>(t, i), &of.read::<2>(t, j)),
+        Part::Face => is_within(&of.read::<4>(t, i), &of.read::<4>(t, j)),
+    }
 }
 
 // Whether part i was met before.
@@ -52,26 +53,16 @@ fn is_met_before(of: Part, mesh: PlainMesh, i: usize) -> bool
     requires { i < length (parts_met of mesh.tables) }
     ensures { let keys = map key_of (parts_met of mesh.entry.tables) in result ≡ any (same (get_or keys i [])) (take i keys) }
 {
-    for j in 0..i {
-        if same_parts(of, mesh, i, j) {
-            return true;
-        }
-    }
-    false
+    (0..i).any(|j| same_parts(of, mesh, i, j))
 }
 
 // How many edges or faces there are.
-#[tactic(auto, using(crate::proofs::Counting::count_start))]
 pub fn count_distinct(of: Part, mesh: PlainMesh) -> usize
     ensures { result ≡ parts_counted of mesh.entry.tables }
 {
-    let mut count = 0;
-    for i in 0..parts::part_count(of, mesh.tables) {
-        if !is_met_before(of, mesh, i) {
-            count += 1;
-        }
-    }
-    count
+    (0..of.count_all(mesh.tables))
+        .filter(|i| !is_met_before(of, mesh, *i))
+        .count()
 }
 
 // Whether the faces i and j have one corner set and other neighbours in going round.
@@ -79,36 +70,22 @@ fn is_mismatched(mesh: PlainMesh, i: usize, j: usize) -> bool
     requires { (i < length (parts_met Part.Face mesh.tables)) × (j < length (parts_met Part.Face mesh.tables)) }
     ensures { let fs = parts_met Part.Face mesh.entry.tables in result ≡ mismatched (get_or fs i []) (get_or fs j []) }
 {
-    let mut f = [0u32; 4];
-    let mut g = [0u32; 4];
-    parts::read(Part::Face, mesh.tables, i, &mut f);
-    parts::read(Part::Face, mesh.tables, j, &mut g);
+    let f = Part::Face.read(mesh.tables, i);
+    let g = Part::Face.read(mesh.tables, j);
     is_within(&f, &g) && faces::across(f) != faces::across(g)
 }
 
 // Whether some face does not match face i.
-#[tactic(auto, using(crate::proofs::Library::none_more, crate::proofs::Library::one_passes), unfolding(rules::specs::Lists::any))]
 fn has_mismatch(mesh: PlainMesh, i: usize) -> bool
     requires { i < length (parts_met Part.Face mesh.tables) }
     ensures { let fs = parts_met Part.Face mesh.entry.tables in result ≡ any (mismatched (get_or fs i [])) fs }
 {
-    for j in 0..parts::part_count(Part::Face, mesh.tables) {
-        if is_mismatched(mesh, i, j) {
-            return true;
-        }
-    }
-    false
+    (0..Part::Face.count_all(mesh.tables)).any(|j| is_mismatched(mesh, i, j))
 }
 
 // Whether two faces have one corner set and different neighbours in going round.
-#[tactic(auto, using(crate::proofs::Library::none_more, crate::proofs::Library::one_passes, crate::proofs::Library::none_passes, crate::proofs::WalkLaws::met_mesh), unfolding(rules::specs::Lists::any, rules::specs::Refusals::mismatched_face))]
 pub fn has_mismatched_face(mesh: PlainMesh) -> bool
     ensures { result ≡ mismatched_face (topology (mesh_in mesh.entry.tables)) }
 {
-    for i in 0..parts::part_count(Part::Face, mesh.tables) {
-        if has_mismatch(mesh, i) {
-            return true;
-        }
-    }
-    false
+    (0..Part::Face.count_all(mesh.tables)).any(|i| has_mismatch(mesh, i))
 }

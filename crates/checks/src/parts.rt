@@ -15,17 +15,7 @@ pub enum Part {
 }
 
 impl Part {
-    // How many corners one has.
-    pub fn corners(self) -> usize
-        ensures { result ≡ size_of self }
-    {
-        match self {
-            Part::Edge => 2,
-            Part::Face => 4,
-        }
-    }
-
-    // Those of a hex.
+    // Those of a hex. The three lists of names are no table: where a kind is named, the compiler knows how many parts a cell has.
     fn of_hexes(self) -> Parts
         ensures { Named self hex result }
     {
@@ -54,48 +44,52 @@ impl Part {
             Part::Face => Parts::SegmentFaces,
         }
     }
+
+    // How many the cells of a mesh have, each counted as often as it is met.
+    #[tactic(auto, using(crate::proofs::WalkLaws::all_counted, crate::proofs::WalkLaws::few_parts))]
+    pub fn count_all(self, mesh: MeshTables) -> usize
+        ensures { result ≡ length (parts_met self mesh.entry) }
+    {
+        self.of_hexes().count_all(mesh.hexes)
+            + self.of_quads().count_all(mesh.quads)
+            + self.of_segments().count_all(mesh.segments)
+    }
+
+    // The corners of number i of them.
+    #[tactic(auto, using(crate::proofs::WalkLaws::all_counted, crate::proofs::WalkLaws::met_hex, crate::proofs::WalkLaws::met_quad, crate::proofs::WalkLaws::met_segment, crate::proofs::WalkLaws::segment_below))]
+    pub fn read<const C: usize>(self, mesh: MeshTables, i: usize) -> [u32; C]
+        requires size { C ≡ size_of self }
+        requires i_in_bounds { i < length (parts_met self mesh) }
+        ensures { result ≡ get_or (parts_met self mesh.entry) i [] }
+    {
+        let hexes = self.of_hexes();
+        let in_hexes = hexes.count_all(mesh.hexes);
+        if i < in_hexes {
+            return read_in(hexes, mesh.hexes, i);
+        }
+        let behind = i - in_hexes;
+        let quads = self.of_quads();
+        let in_quads = quads.count_all(mesh.quads);
+        if behind < in_quads {
+            return read_in(quads, mesh.quads, behind);
+        }
+        read_in(self.of_segments(), mesh.segments, behind - in_quads)
+    }
 }
 
-// Reads the corners of number i of these parts of the cells of a table.
-fn read_in(of: Parts, cells: &[u32], i: usize, corners: &mut [u32])
-    requires size { length corners.old ≡ part_corners of }
+// The corners of number i of these parts of the cells of a table.
+#[tactic(auto, using(crate::proofs::WalkLaws::some, crate::proofs::WalkLaws::part_below, crate::proofs::WalkLaws::cell_within, crate::proofs::WalkLaws::located))]
+fn read_in<const C: usize>(of: Parts, cells: &[u32], i: usize) -> [u32; C]
+    requires size { C ≡ part_corners of }
     requires i_in_bounds { i < length (parts_in of cells.now) }
-    ensures { corners.new ≡ get_or (parts_in of cells.now) i [] }
+    ensures { result ≡ get_or (parts_in of cells.now) i [] }
 {
     let n = of.count();
     let cell = of.cell_corners() * (i / n);
-    for j in 0..corners.len() {
-        corners[j] = cells[cell + of.place(i % n, j)];
+    let mut corners = [0u32; C];
+    // No `from_fn`: under a const parameter its closure would need clauses of its own.
+    for (j, corner) in corners.iter_mut().enumerate() {
+        *corner = cells[cell + of.place(i % n, j)];
     }
-}
-
-// How many edges or faces the cells of a mesh have, each counted as often as it is met.
-#[tactic(auto, using(crate::proofs::WalkLaws::all_counted, crate::proofs::WalkLaws::few_parts))]
-pub fn part_count(of: Part, mesh: MeshTables) -> usize
-    ensures { result ≡ length (parts_met of mesh.entry) }
-{
-    of.of_hexes().count_all(mesh.hexes)
-        + of.of_quads().count_all(mesh.quads)
-        + of.of_segments().count_all(mesh.segments)
-}
-
-// Reads the corners of number i of them.
-#[tactic(auto, using(crate::proofs::WalkLaws::all_counted, crate::proofs::WalkLaws::met_hex, crate::proofs::WalkLaws::met_quad, crate::proofs::WalkLaws::met_segment, crate::proofs::WalkLaws::segment_below))]
-pub fn read(of: Part, mesh: MeshTables, i: usize, corners: &mut [u32])
-    requires size { length corners.old ≡ size_of of }
-    requires i_in_bounds { i < length (parts_met of mesh) }
-    ensures { corners.new ≡ get_or (parts_met of mesh.entry) i [] }
-{
-    let hexes = of.of_hexes();
-    let in_hexes = hexes.count_all(mesh.hexes);
-    if i < in_hexes {
-        return read_in(hexes, mesh.hexes, i, corners);
-    }
-    let behind = i - in_hexes;
-    let quads = of.of_quads();
-    let in_quads = quads.count_all(mesh.quads);
-    if behind < in_quads {
-        return read_in(quads, mesh.quads, behind, corners);
-    }
-    read_in(of.of_segments(), mesh.segments, behind - in_quads, corners);
+    corners
 }

@@ -21,17 +21,11 @@ pub fn has_partial_entry(mesh: MeshTables) -> bool
 }
 
 // 2, count out of range (rule 7.2).
-#[tactic(auto, unfolding(rules::specs::Refusals::count_out_of_range, rules::specs::Counts::out_of_range, rules::specs::Counts::counts_of))]
+#[tactic(auto, unfolding(rules::specs::Refusals::count_out_of_range))]
 pub fn has_count_out_of_range(mesh: MeshTables) -> bool
     ensures { result ≡ count_out_of_range (mesh_in mesh.entry) }
 {
-    let n = mesh.vertices.len() / 3;
-    n == 0
-        || 1000000 < n
-        || 250000 < mesh.hexes.len() / 8
-        || 250000 < mesh.quads.len() / 4
-        || 250000 < mesh.segments.len() / 2
-        || 250000 < mesh.points.len()
+    counting::out_of_range(mesh.places())
 }
 
 // 3 of one coordinate (rule 7.3).

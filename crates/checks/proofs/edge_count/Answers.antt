@@ -10,5 +10,5 @@ use Rattle.checks.proofs.edge_count.Goals as goal
 pub returns-then-is_empty-2 : goal.returns-then-is_empty-2
 returns-then-is_empty-2 c =
     let m = c.args.mesh.tables in
-    sym (segments_alone m.hexes.now m.quads.now m.segments.now (eqb-true _ _ (sym c.if-is_empty.ensures)) (eqb-true _ _ (sym c.if-is_empty-2.ensures))
+    sym (segments_alone (mesh_in m) (eqb-true _ _ (sym c.if-is_empty.ensures)) (eqb-true _ _ (sym c.if-is_empty-2.ensures))
     (no_duplicates (mesh_in m) c.requires segment))

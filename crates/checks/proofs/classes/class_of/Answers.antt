@@ -1,26 +1,27 @@
-use Rattle.std.proofs.Common.{◌≡◌, ◌∷◌, ℕ, ◌+◌, ◌*◌, ◌/◌, ◌%◌, ◌^◌, ◌<◌, ap, ◌∙◌, add-one, arith, get_or, drop, length, drop-cons, lit<}
-use lib.ListN.{drop_of_length-le}
-use Rattle.checks.specs.Classes.{total, class_of}
-use Rattle.checks.proofs.ClassLaws.{class_below}
+use Rattle.std.proofs.Common.{ℕ, ◌*◌, ◌/◌, ◌%◌, ◌^◌, ap, arith, lit<, rules, ◌∙◌, of_calls}
+use Rattle.std.proofs.lemmas.Iterator.{YieldsList-from_slice, YieldsList-from_map}
+use Rattle.std.proofs.lemmas.Iterator.Consumers.{sum_by_from_yields_List, fits_by_from_yields_list, YieldsList-at}
+use Rattle.checks.specs.Classes.{squared, class_of}
+use Rattle.checks.proofs.ClassLaws.{class_below, sum_total, total_few}
 use Rattle.checks.proofs.classes.class_of.Goals as goal
 
 -- one class holds all
 pub returns-then-classes-eq1 : goal.returns-then-classes-eq1
 returns-then-classes-eq1 c = let h = class_below 1 (lit< tt) c.args.corners.now in rw c.if-classes-eq1.true (omega (arith, h))
 
-pub loop-corner-preserved : goal.loop-corner-preserved
-unfolding total
-loop-corner-preserved c =
-    let i = c.loop-corner.corner-index in
-    let k = c.args.corners.now in
-    let u : i < length k = c.loop-corner-test.true in
-    let e : drop i k ≡ get_or k i 0 ∷ drop (i + 1) k = drop-cons k i 0 u ∙ rw add-one in
-    let t = rw e at c.loop-corner.invariant.rest in
-    record { few = omega (arith, c.square-sum.ensures.1); rest = rw c.square-sum.ensures.0 (omega (arith, t)) }
+pub sum-sum-requires : goal.sum-sum-requires
+sum-sum-requires c =
+    let p = c.args.corners.now in
+    record {
+      can = search of_calls;
+      finite = search of_calls;
+      fits = fits_by_from_yields_list squared p c.map.result _ (YieldsList-from_map _ squared (YieldsList-at c.map.ensures.source (YieldsList-from_slice p c.iter.ensures.rest)) c.map.ensures.closure (λ x r q k. search rules)) (rw (sum_total p) (omega (arith, total_few p)));
+    }
 
 pub returns : goal.returns
-unfolding total class_of
+unfolding class_of
 returns c =
-    let k = c.args.corners.now in
-    let e : c.loop-corner.sum ≡ total k = omega (arith, rw (drop_of_length-le k {i = c.loop-corner.corner-index} c.loop-corner-test.false) at c.loop-corner.invariant.rest) in
-    ap (λ (n : ℕ). n % 2 ^ 32 * 1640531527 % 2 ^ 32 * c.args.classes / 2 ^ 32) e
+    let p = c.args.corners.now in
+    ap (λ (n : ℕ). n % 2 ^ 32 * 1640531527 % 2 ^ 32 * c.args.classes / 2 ^ 32)
+    (sum_by_from_yields_List squared p c.map.result _ c.sum-sum.ensures.ran (YieldsList-from_map _ squared (YieldsList-at c.map.ensures.source (YieldsList-from_slice p c.iter.ensures.rest)) c.map.ensures.closure (λ x r q k. search rules))
+    ∙ sum_total p)

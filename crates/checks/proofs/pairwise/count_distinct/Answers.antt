@@ -1,16 +1,20 @@
-use Rattle.std.proofs.Common.{◌<◌, map, sym, ◌∙◌, arith, length}
+use Rattle.std.proofs.Common.{map, ◌≡◌, ◌∙◌, ap, sym, length, arith, rules, tests}
 use lib.ListN.{length-map}
-use Rattle.rules.specs.Lists.{key_of}
+use Rattle.std.specs.List.{filter}
+use Rattle.std.proofs.lemmas.Iterator.{YieldsList-from_range}
+use Rattle.std.proofs.lemmas.Iterator.Consumers.{count_from_yields_List, YieldsList-from_filter}
+use Rattle.rules.specs.Lists.{key_of, up_from}
 use Rattle.checks.specs.Walk.{parts_met}
-use Rattle.checks.proofs.Counting.{count_known, count_new}
+use Rattle.checks.proofs.Library.{range-up_from}
+use Rattle.checks.proofs.Counting.{is_new, count_distinct_lem}
 use Rattle.checks.proofs.pairwise.count_distinct.Goals as goal
-use Rattle.checks.proofs.pairwise.count_distinct.Goals.{then-not-is_met_before, else-not-is_met_before}
 
-pub loop-i-preserved : goal.loop-i-preserved
-loop-i-preserved c =
-    let ps = parts_met c.args.of c.args.mesh.tables in
-    let l : c.loop-i.i < length (map key_of ps) = omega (arith, c.part_count-i-end.ensures, c.loop-i-test.true, length-map ps key_of) in
-    elim c.if-not-is_met_before.branch [
-      | then-not-is_met_before w ↦ rw w.count-is (count_new c.loop-i.invariant l (sym c.is_met_before.ensures ∙ w.if-not-is_met_before.true))
-      | else-not-is_met_before w ↦ rw w.count-is (count_known c.loop-i.invariant l (sym c.is_met_before.ensures ∙ w.if-not-is_met_before.false))
-    ]
+pub returns : goal.returns
+returns c =
+    let keys = map key_of (parts_met c.args.of c.args.mesh.tables) in
+    let n = c.count_all.result in
+    let e : n ≡ length keys = c.count_all.ensures ∙ sym (length-map (parts_met c.args.of c.args.mesh.tables) key_of) in
+    count_from_yields_List c.filter.result _ c.count.ensures.ran
+    (YieldsList-from_filter _ (is_new keys) (YieldsList-from_range 0 n n c.filter.ensures.source (omega arith)) c.filter.ensures.closure (λ x r q k. search (rules, tests)))
+    ∙ ap (λ l. length (filter (is_new keys) l)) (range-up_from 0 n ∙ ap (up_from 0) e)
+    ∙ count_distinct_lem keys
