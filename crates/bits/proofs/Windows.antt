@@ -1,12 +1,12 @@
 -- The few bytes that hold a field: got as one number (`field_window`), and put back as one (`put_bytes`).
 use Prim.Native.Nat.{ℕ, suc, ◌+◌, ◌-◌, ◌*◌, ◌/◌, ◌%◌, ◌^◌, ◌≤◌, ◌<◌}
 use mathlib.Core.Path.{◌≡◌, sym, ap, ap₂, ◌∙◌, subst}
-use mathlib.Core.List.{List, [], ◌∷◌, ◌++◌}
+use mathlib.Core.List.{List, [], ◌∷◌, ◌++◌, append_assoc}
 use native.Mathlib.Nat.{mod-lt, div-one, mul_assoc, mul-add-mod_self_right, mul-add-div_right, lt_of_lt_of_le}
 use native.Mathlib.Numerals.{add-one}
 use native.Mathlib.Omega.{arith}
 use lib.ListN.{length, take, drop, get_or, length-drop, length-take, take-append-drop}
-use lib.Seq.{take-suc, length-take-le, take-add, sets, sets-eq}
+use lib.Seq.{take-suc, length-take-le, take-add, drop-drop, sets, sets-eq}
 use lib.Pow.{pow_pos, pow-add, pow_mono, shl_lt}
 use Rattle.rules.specs.Bits.{number, first_bits, field_at, bytes_for, bytes_of, packed}
 use Rattle.bits.specs.Writing.{Bytes, written, put_at}
@@ -91,6 +91,18 @@ first_byte d from u hd h₁ h₂ =
     ∙ ap (λ (n : ℕ). (n + b) / 2 ^ (8 - u)) up
     ∙ mul-add-div_right (pow_pos (8 - u)) (number a * 2 ^ u) b
     ∙ ap (λ (n : ℕ). n * 2 ^ u + b / 2 ^ (8 - u)) (sym (first_bytes d from hd (omega arith)))
+
+-- n bytes from byte `at` on, lent and given back as those that spell x
+pub part_put : (d ys : List ℕ) (at n x : ℕ) → at + n ≤ length d → ys ≡ bytes_of (length (take (at + n - at) (drop at d))) x
+    → take at d ++ (ys ++ drop (at + n - at) (drop at d)) ≡ sets d at (bytes_of n x)
+part_put d ys at n x h e =
+    let k : at + n - at ≡ n = omega arith in
+    let l : length (take n (drop at d)) ≡ n = length-take-le n (drop at d) (rw length-drop (omega arith)) in
+    let same : ys ≡ bytes_of n x = e ∙ ap (λ (i : ℕ). bytes_of (length (take i (drop at d))) x) k ∙ ap (λ (i : ℕ). bytes_of i x) l in
+    ap₂ (λ (b : List ℕ) (i : ℕ). take at d ++ (b ++ drop i (drop at d))) same k
+    ∙ ap (λ (r : List ℕ). take at d ++ (bytes_of n x ++ r)) (drop-drop n at d)
+    ∙ sym (append_assoc (take at d) (bytes_of n x) (drop (at + n) d))
+    ∙ sym (sets-eq (bytes_of n x) d at (omega (arith, length_bytes_of n x)) ∙ ap (λ (i : ℕ). take at d ++ bytes_of n x ++ drop (at + i) d) (length_bytes_of n x))
 
 -- Bits put from a whole byte on change the n bytes that hold them alone, and the last of these ends in zero bits.
 pub put_bytes : (d : List ℕ) (from k v : ℕ) → Bytes d → v < 2 ^ k → 8 * from + k ≤ 8 * length d

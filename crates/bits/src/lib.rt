@@ -41,25 +41,26 @@ fn cut(x: u64, below: u32, k: u32) -> u64
 
 // ---- bytes as one number
 
-// The number that n bytes from byte `from` on spell: at most eight.
-fn get_bytes(s: &[u8], from: usize, n: usize) -> u64
-    requires { (from + n ≤ length s.now) × (n ≤ 8) }
-    ensures { result ≡ number (take n (drop from s.now)) }
+// The number that bytes spell: at most eight.
+fn get_bytes(s: &[u8]) -> u64
+    requires { length s.now ≤ 8 }
+    ensures { result ≡ number s.now }
 {
     let mut x: u64 = 0;
-    for byte in &s[from..from + n] {
+    for byte in s {
         x = append(x, 8, u64::from(*byte));
     }
     x
 }
 
-// Stores the n bytes that spell x from byte `from` on: at most four.
-fn put_bytes(d: &mut [u8], from: usize, n: usize, x: u64)
-    requires { (from + n ≤ length d.old) × (n ≤ 4) }
-    ensures { d.new ≡ sets d.old from (bytes_of n x) }
+// Stores the bytes that spell x, at most four. By index, since its distance from the last says which byte of x one is.
+fn put_bytes(d: &mut [u8], x: u64)
+    requires { length d.old ≤ 4 }
+    ensures { d.new ≡ bytes_of (length d.old) x }
 {
+    let n = d.len();
     for i in 0..n {
-        d[from + i] = cut(x, (8 * (n - 1 - i)) as u32, 8) as u8;
+        d[i] = cut(x, (8 * (n - 1 - i)) as u32, 8) as u8;
     }
 }
 
@@ -74,9 +75,9 @@ pub fn get_field(s: &[u8], at: usize, k: u32) -> u32
     let n = (end + 7) / 8;
     let after = (8 * n - end) as u32;
     if n < 8 {
-        return cut(get_bytes(s, 0, n), after, k) as u32;
+        return cut(get_bytes(&s[..n]), after, k) as u32;
     }
-    cut(get_bytes(s, n - 8, 8), after, k) as u32
+    cut(get_bytes(&s[n - 8..n]), after, k) as u32
 }
 
 // ---- fields into bytes

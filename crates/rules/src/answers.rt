@@ -1,9 +1,10 @@
 // Refusals as numbers, and the results of calls as answers for C: the refusal's number, 0 for none, and beside it the call's other numbers,
-// zeros where it is refused.
+// zeros where it is refused. And counts among sizes.
 ghost use Rattle.std.specs.Prelude.{◌≡◌};
 ghost use Rattle.rules.specs.Answers.{number_of, counts_answer_of, count_answer_of, millimetres_answer_of};
+ghost use Rattle.rules.specs.Counts.{counts_in};
 
-use crate::{CountAnswer, Counts, CountsAnswer, Millimetres, MillimetresAnswer, Refusal};
+use crate::{CountAnswer, Counts, CountsAnswer, Millimetres, MillimetresAnswer, Refusal, Sizes};
 
 impl From<Refusal> for u32 {
     ghost from_gives = { λ refusal number. number ≡ number_of refusal };
@@ -37,13 +38,7 @@ impl From<Result<Counts, Refusal>> for CountsAnswer {
             Ok(counts) => CountsAnswer { refusal: 0, counts },
             Err(refusal) => CountsAnswer {
                 refusal: u32::from(refusal),
-                counts: Counts {
-                    vertices: 0,
-                    hexes: 0,
-                    quads: 0,
-                    segments: 0,
-                    points: 0,
-                },
+                counts: Counts::default(),
             },
         }
     }
@@ -74,12 +69,26 @@ impl From<Result<Millimetres, Refusal>> for MillimetresAnswer {
             },
             Err(refusal) => MillimetresAnswer {
                 refusal: u32::from(refusal),
-                position: Millimetres {
-                    x: 0.0,
-                    y: 0.0,
-                    z: 0.0,
-                },
+                position: Millimetres::default(),
             },
+        }
+    }
+}
+
+// The counts beside no edges and no faces.
+impl From<Counts> for Sizes {
+    ghost from_gives = { λ counts sizes. (counts_in sizes ≡ counts) × (sizes.edges ≡ 0) × (sizes.faces ≡ 0) };
+
+    #[tactic(auto, unfolding(crate::specs::Counts::counts_in))]
+    fn from(counts: Counts) -> Sizes {
+        Sizes {
+            vertices: u64::from(counts.vertices),
+            edges: 0,
+            faces: 0,
+            hexes: u64::from(counts.hexes),
+            quads: u64::from(counts.quads),
+            segments: u64::from(counts.segments),
+            points: u64::from(counts.points),
         }
     }
 }

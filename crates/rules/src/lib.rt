@@ -3,7 +3,7 @@
 
 // The counts of a mesh's five tables.
 #[repr(C)]
-#[derive(Clone, Copy)]
+#[derive(Clone, Copy, Default)]
 pub struct Counts {
     pub vertices: u32,
     pub hexes: u32,
@@ -62,7 +62,7 @@ pub struct CountAnswer {
 
 // A position in millimetres.
 #[repr(C)]
-#[derive(Clone, Copy)]
+#[derive(Clone, Copy, Default)]
 pub struct Millimetres {
     pub x: f64,
     pub y: f64,

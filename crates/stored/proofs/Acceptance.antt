@@ -43,6 +43,10 @@ three_checks false true c x y z later = refl
 three_checks false false true x y z later = refl
 three_checks false false false x y z later = refl
 
+pub first_passes : (n later : ℕ) → or_later n later ≡ 0 → n ≡ 0
+first_passes zero later e = refl
+first_passes (suc n) later e = absurd (omega arith)
+
 -- rows of checks, one behind another
 then_later : (a b later : ℕ) → or_later a (or_later b later) ≡ or_later (or_later a b) later
 then_later zero b later = refl
@@ -217,11 +221,7 @@ tables_later m later = go (partial_entry m) (count_out_of_range m) (coordinate_o
     go false false false false = refl
 
 pub mesh_passes : (m : Mesh) (later : ℕ) → table_checks m later ≡ 0 → TablesPass m
-mesh_passes m later e = tables_pass m (first (table_checks m 0) (sym (tables_later m later) ∙ e))
-  where
-    first : (n : ℕ) → or_later n later ≡ 0 → n ≡ 0
-    first zero e = refl
-    first (suc n) e = absurd (omega arith)
+mesh_passes m later e = tables_pass m (first_passes (table_checks m 0) later (sym (tables_later m later) ∙ e))
 
 pub passing : (m : Mesh) (later : ℕ) → TablesPass m → table_checks m later ≡ later
 unfolding table_checks

@@ -1,5 +1,5 @@
 -- The index width and the bits of each table are small where the counts are in their ranges.
-use Prim.Native.Nat.{ℕ, ◌+◌, ◌-◌, ◌*◌, ◌^◌, ◌≤◌, ◌<◌}
+use Prim.Native.Nat.{ℕ, ◌+◌, ◌-◌, ◌*◌, ◌≤◌, ◌<◌}
 use mathlib.Core.Path.{◌≡◌, refl, sym, ap, ◌∙◌, subst}
 use mathlib.Core.Bool.{false}
 use native.Mathlib.Nat.{mul-le-mul_left, mul-le-mul_right, le_trans}
@@ -9,6 +9,7 @@ use Rattle.rules.specs.declared.Sizes.{Sizes}
 use Rattle.rules.specs.Counts.{out_of_range, counts_in}
 use Rattle.rules.specs.Bits.{bytes_for, width_of}
 use Rattle.rules.specs.StoredForm.{index_width, layout}
+use Rattle.counting.specs.Bounded.{Narrow}
 use Rattle.soundness.specs.Growth.{InRange}
 use Rattle.soundness.proofs.Rounds.{in_range_lem}
 use Rattle.bits.proofs.IndexWidth.{width_le, width_pos}
@@ -82,15 +83,8 @@ numbers c at h l =
       short = omega (arith, end, s.range.vertices, s.hexes, s.quads, s.segments, s.points);
     }
 
--- counts in their ranges, among sizes, are words
-pub record Words (p : Sizes) : Type 0 where
-  pub vertices : p.vertices < 2 ^ 32
-  pub hexes : p.hexes < 2 ^ 32
-  pub quads : p.quads < 2 ^ 32
-  pub segments : p.segments < 2 ^ 32
-  pub points : p.points < 2 ^ 32
-
-pub places_fit : (p : Sizes) (c : Counts) → counts_in p ≡ c → out_of_range c ≡ false → Words p
+-- counts in their ranges, among sizes, fit
+pub places_fit : (p : Sizes) (c : Counts) → counts_in p ≡ c → out_of_range c ≡ false → Narrow p
 unfolding counts_in
 places_fit p c e h =
     let r = in_range_lem (counts_in p) (ap out_of_range e ∙ h) in

@@ -7,7 +7,7 @@ ghost use Rattle.rules.specs.Lists.{any};
 ghost use Rattle.rules.specs.StoredForm.{header_of};
 ghost use Rattle.stored.specs.Reading.{whole_header_checks, body_checks, file_checks};
 
-use crate::header::{check_width, read_counts};
+use crate::header::{HeadedFile, read_counts};
 use crate::layout::{Layout, layout_of};
 use rules::{Counts, Refusal};
 
@@ -28,11 +28,12 @@ fn reaches(s: &[u8], at: Layout, n: u32) -> bool
 }
 
 // What stands behind the header: 13 for the whole length, 16 for a filling bit, 4 for a corner.
-fn check_body(s: &[u8], c: Counts) -> Result<(), Refusal>
-    requires { (whole_header_checks s.now 0 ≡ 0) × ((header_of s.now).counts ≡ c) }
-    ensures { refusal_of result ≡ body_checks s.now 0 }
+fn check_body(file: HeadedFile) -> Result<(), Refusal>
+    requires { whole_header_checks file.bytes.now 0 ≡ 0 }
+    ensures { refusal_of result ≡ body_checks file.entry.bytes.now 0 }
 {
-    let at = layout_of(c);
+    let s = file.bytes;
+    let at = layout_of(file.counts);
     if s.len() != at.bytes {
         return Err(Refusal::WrongFileLength);
     }
@@ -40,7 +41,7 @@ fn check_body(s: &[u8], c: Counts) -> Result<(), Refusal>
     if filling != 0 {
         return Err(Refusal::NonzeroPadding);
     }
-    if reaches(s, at, c.vertices) {
+    if reaches(s, at, file.counts.vertices) {
         return Err(Refusal::CornerOutOfRange);
     }
     Ok(())
@@ -51,7 +52,8 @@ pub fn check_file(s: &[u8]) -> Result<Counts, Refusal>
     ensures { counts_answer_of result ≡ counts_answer (file_checks s.now 0) (header_of s.now).counts }
 {
     let counts = read_counts(s)?;
-    check_width(s, counts)?;
-    check_body(s, counts)?;
+    let file = HeadedFile { bytes: s, counts };
+    file.check_width()?;
+    check_body(file)?;
     Ok(counts)
 }

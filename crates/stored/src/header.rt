@@ -1,28 +1,33 @@
 // The header: its counts, and then the index width that the count of vertices calls for. Its fields stand one behind another: the form number
 // from bit 0 on, the index width from bit 4 on, the five counts from bit 9 on.
-ghost use Rattle.std.specs.Prelude.{◌≡◌};
+ghost use Rattle.std.specs.Prelude.{◌≡◌, Ok};
 ghost use Rattle.rules.specs.Answers.{refusal_of, counts_answer_of};
-ghost use Rattle.rules.specs.Counts.{counts_in};
 ghost use Rattle.rules.specs.Refusals.{check};
-ghost use Rattle.rules.specs.StoredForm.{header_of, wrong_width, header_checks, header_answer};
+ghost use Rattle.rules.specs.StoredForm.{wrong_width, header_answer};
 
 use rules::{Counts, Refusal, Sizes};
 
 // How many bytes hold the header.
 const HEADER_BYTES: usize = 13;
 
-// The counts beside no edges and no faces.
-pub fn sizes_of(c: Counts) -> Sizes
-    ensures { counts_in result ≡ c }
-{
-    Sizes {
-        vertices: u64::from(c.vertices),
-        edges: 0,
-        faces: 0,
-        hexes: u64::from(c.hexes),
-        quads: u64::from(c.quads),
-        segments: u64::from(c.segments),
-        points: u64::from(c.points),
+// A file whose header passes its checks, but for the width, and the header's counts.
+#[derive(Clone, Copy)]
+pub struct HeadedFile<'a> {
+    pub bytes: &'a [u8],
+    pub counts: Counts,
+    ghost passed: { counts_answer_of (Ok counts) ≡ header_answer bytes.now },
+}
+
+impl HeadedFile<'_> {
+    // The index width: 15 unless it is that of the count of vertices.
+    pub fn check_width(self) -> Result<(), Refusal>
+        ensures { refusal_of result ≡ check (wrong_width self.entry.bytes.now) 15 0 }
+    {
+        let width = bits::get_field(self.bytes, 4, 5);
+        if width != bits::index_width(self.counts.vertices - 1) {
+            return Err(Refusal::WrongIndexWidth);
+        }
+        Ok(())
     }
 }
 
@@ -45,20 +50,8 @@ pub fn read_counts(s: &[u8]) -> Result<Counts, Refusal>
         segments: bits::get_field(s, 65, 18),
         points: bits::get_field(s, 83, 18),
     };
-    if counting::out_of_range(sizes_of(counts)) {
+    if counting::out_of_range(Sizes::from(counts)) {
         return Err(Refusal::CountOutOfRange);
     }
     Ok(counts)
-}
-
-// The index width: 15 unless it is that of the count of vertices.
-pub fn check_width(s: &[u8], c: Counts) -> Result<(), Refusal>
-    requires { (header_checks s.now 0 ≡ 0) × ((header_of s.now).counts ≡ c) }
-    ensures { refusal_of result ≡ check (wrong_width s.now) 15 0 }
-{
-    let width = bits::get_field(s, 4, 5);
-    if width != bits::index_width(c.vertices - 1) {
-        return Err(Refusal::WrongIndexWidth);
-    }
-    Ok(())
 }

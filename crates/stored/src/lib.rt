@@ -17,12 +17,12 @@ ghost use Rattle.rules.specs.StoredForm.{stored_form, stored_mesh, header_answer
 ghost use Rattle.tables.specs.Lent.{mesh_in, mesh_at, SameSlices};
 
 use crate::file::check_file;
-use crate::header::{read_counts, sizes_of};
+use crate::header::{HeadedFile, read_counts};
 use crate::layout::layout_of;
 use crate::reading::store_tables;
-use crate::writing::{counts_of, put_mesh};
+use crate::writing::put_mesh;
 use checks::table_checks::check_tables;
-use rules::{Counts, Refusal};
+use rules::{Counts, Refusal, Sizes};
 use tables::{LentTables, MeshTables};
 
 mod file;
@@ -47,10 +47,10 @@ pub fn read(bytes: &[u8], tables: &mut LentTables) -> Result<Counts, Refusal>
     ensures inverse { IfOk result (λ counts. let m = front counts (mesh_at tables.new) in (writing_refusal m (length bytes.now) ≡ 0) × (stored_form m ≡ bytes.now)) }
 {
     let counts = check_file(bytes)?;
-    if counting::fewer(tables.as_mesh().places(), sizes_of(counts)) {
+    if counting::fewer(tables.as_mesh().places(), Sizes::from(counts)) {
         return Err(Refusal::ShortBuffer);
     }
-    store_tables(bytes, counts, tables);
+    store_tables(HeadedFile { bytes, counts }, tables);
     Ok(counts)
 }
 
@@ -62,7 +62,7 @@ pub fn write(mesh: MeshTables, buffer: &mut [u8]) -> Result<u64, Refusal>
     ensures inverse { IfOk result (λ count. let s = take count buffer.new in (reading_refusal s (counts_of (mesh_in mesh.entry)) ≡ 0) × (stored_mesh s ≡ mesh_in mesh.entry)) }
 {
     check_tables(mesh)?;
-    let counts = counts_of(mesh);
+    let counts = counting::counts_in(mesh.places());
     let at = layout_of(counts);
     if buffer.len() < at.bytes {
         return Err(Refusal::ShortBuffer);

@@ -2,19 +2,21 @@
 ghost use Rattle.std.specs.Prelude.{◌≡◌};
 ghost use Rattle.rules.specs.Counts.{counts_of};
 ghost use Rattle.rules.specs.EntryPoints.{result_tables};
-ghost use Rattle.rules.specs.StoredForm.{header_of, stored_mesh, reading_refusal};
+ghost use Rattle.rules.specs.StoredForm.{stored_mesh, reading_refusal};
 ghost use Rattle.tables.specs.Lent.{mesh_at, SameSlices};
 
+use crate::header::HeadedFile;
 use crate::layout::layout_of;
-use rules::Counts;
 use tables::LentTables;
 
 // Stores the five tables.
-pub fn store_tables(s: &[u8], c: Counts, lent: &mut LentTables)
-    requires { ((header_of s.now).counts ≡ c) × (reading_refusal s.now (counts_of (mesh_at lent.old)) ≡ 0) }
+pub fn store_tables(file: HeadedFile, lent: &mut LentTables)
+    requires { reading_refusal file.bytes.now (counts_of (mesh_at lent.old)) ≡ 0 }
     ensures same_slices { SameSlices lent.old lent.new }
-    ensures after { mesh_at lent.new ≡ result_tables 0 (mesh_at lent.old) (stored_mesh s.now) }
+    ensures after { mesh_at lent.new ≡ result_tables 0 (mesh_at lent.old) (stored_mesh file.entry.bytes.now) }
 {
+    let s = file.bytes;
+    let c = file.counts;
     let at = layout_of(c);
     let w = at.width;
     bits::get_table(s, 101, 30, lent.vertices, 3 * c.vertices as usize);

@@ -1,7 +1,7 @@
 // A mesh as fields, put into a buffer.
-ghost use Rattle.std.specs.Prelude.{◌≡◌, false, ◌^◌, ◌≤◌, ◌<◌, length};
+ghost use Rattle.std.specs.Prelude.{◌≡◌, ◌^◌, ◌≤◌, ◌<◌, length};
 ghost use Rattle.rules.specs.Lists.{overwritten};
-ghost use Rattle.rules.specs.Counts.{counts_of, out_of_range};
+ghost use Rattle.rules.specs.Counts.{counts_of};
 ghost use Rattle.rules.specs.Refusals.{table_checks};
 ghost use Rattle.rules.specs.StoredForm.{form_number, index_width, header_fields, stored_form};
 ghost use Rattle.bits.specs.Writing.{put_all};
@@ -9,22 +9,6 @@ ghost use Rattle.tables.specs.Lent.{mesh_in};
 
 use rules::Counts;
 use tables::MeshTables;
-
-// The counts of a mesh that has them in their ranges.
-#[tactic(auto, using(crate::proofs::Bounds::places_fit))]
-pub fn counts_of(mesh: MeshTables) -> Counts
-    requires { out_of_range (counts_of (mesh_in mesh)) ≡ false }
-    ensures { result ≡ counts_of (mesh_in mesh.entry) }
-{
-    let places = mesh.places();
-    Counts {
-        vertices: places.vertices as u32,
-        hexes: places.hexes as u32,
-        quads: places.quads as u32,
-        segments: places.segments as u32,
-        points: places.points as u32,
-    }
-}
 
 // Puts the header. Answers the bit behind it.
 fn put_header(d: &mut [u8], width: u32, c: Counts) -> usize

@@ -4,4 +4,4 @@ use Rattle.rules.specs.Bits.{number}
 use Rattle.bits.proofs.get_bytes.Given as goal
 
 abbrev pub invariant-loop-byte : goal.invariant-loop-byte
-invariant-loop-byte l = l.x ≡ number (take l.byte-index l.byte-items)
+invariant-loop-byte l = l.x ≡ number (take l.byte-index l.s)

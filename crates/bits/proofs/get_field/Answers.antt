@@ -20,4 +20,4 @@ returns c =
     let n : ℕ = (a.at + a.k + 7) / 8 in
     c.cut-2.ensures
     ∙ ap (λ (x : ℕ). x / 2 ^ (8 * n - (a.at + a.k)) % 2 ^ a.k) c.get_bytes-2.ensures
-    ∙ field_window a.s.now a.at a.k (n - 8) 8 n (λ j. (c.type_inv.s j).fits) (omega arith) (omega arith) (omega arith) (omega arith)
+    ∙ field_window a.s.now a.at a.k _ _ n (λ j. (c.type_inv.s j).fits) (omega arith) (omega arith) (omega arith) (omega arith)

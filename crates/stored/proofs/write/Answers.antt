@@ -9,12 +9,13 @@ use Rattle.rules.specs.Bits.{bytes_for}
 use Rattle.rules.specs.StoredForm.{layout, stored_form}
 use Rattle.tables.specs.Lent.{mesh_in}
 use Rattle.checks.proofs.Passed.{TablesPass, tables_pass}
-use Rattle.stored.specs.declared.layout.Layout.{Layout}
-use Rattle.stored.specs.Form.{header_for, Laid}
+use Rattle.stored.specs.Form.{header_for}
 use Rattle.stored.proofs.Acceptance.{pass_range}
 use Rattle.stored.proofs.Inverse.{stored_length}
 use Rattle.stored.proofs.Answers.{mesh_refused, buffer_refused, accepted_writing, promised_mesh}
+use Rattle.stored.proofs.Bounds.{places_fit}
 use Rattle.stored.proofs.write.Goals as goal
+use Rattle.stored.proofs.write.Goals.{After-counts_in-counts, After-layout_of-at}
 
 pub returns-in_err-check_tables-clause-answer : goal.returns-in_err-check_tables-clause-answer
 returns-in_err-check_tables-clause-answer c =
@@ -29,44 +30,51 @@ returns-in_err-check_tables-clause-output c =
 passed : (m : Mesh) → 0 ≡ table_checks m 0 → TablesPass m
 passed m e = tables_pass m (sym e)
 
-pub counts_of-counts-requires : goal.counts_of-counts-requires
-counts_of-counts-requires c = pass_range (mesh_in c.args.mesh) (passed (mesh_in c.args.mesh) c.in_ok-check_tables.ensures)
+pub counts_in-counts-requires : goal.counts_in-counts-requires
+counts_in-counts-requires c =
+    let m = mesh_in c.args.mesh in
+    places_fit c.places.result (counts_of m) c.places.ensures (pass_range m (passed m c.in_ok-check_tables.ensures))
+
+-- the counts are the mesh's
+counts : (c : After-counts_in-counts) → c.counts_in-counts.result ≡ counts_of (mesh_in c.args.mesh)
+counts c = c.counts_in-counts.ensures ∙ c.places.ensures
 
 pub layout_of-at-requires : goal.layout_of-at-requires
 layout_of-at-requires c =
-    ap out_of_range c.counts_of-counts.ensures ∙ pass_range (mesh_in c.args.mesh) (passed (mesh_in c.args.mesh) c.in_ok-check_tables.ensures)
+    ap out_of_range (counts c) ∙ pass_range (mesh_in c.args.mesh) (passed (mesh_in c.args.mesh) c.in_ok-check_tables.ensures)
 
 -- the bytes that the layout calls for
-bytes : (m : Mesh) (c : Counts) (at : Layout) → 0 ≡ table_checks m 0 → c ≡ counts_of m → Laid c at → at.bytes ≡ length (stored_form m)
-bytes m c at e h laid =
-    laid.bytes ∙ ap (λ (x : Counts). bytes_for (layout (header_for x)).end) h ∙ sym (stored_length m (passed m e))
+bytes : (c : After-layout_of-at) → c.layout_of-at.result.bytes ≡ length (stored_form (mesh_in c.args.mesh))
+bytes c =
+    let m = mesh_in c.args.mesh in
+    c.layout_of-at.ensures.bytes ∙ ap (λ (x : Counts). bytes_for (layout (header_for x)).end) (c.counts_in-counts.ensures ∙ c.places.ensures) ∙ sym (stored_length m (passed m c.in_ok-check_tables.ensures))
 
 pub returns-then-buffer-at-clause-answer : goal.returns-then-buffer-at-clause-answer
 returns-then-buffer-at-clause-answer c =
     let m = mesh_in c.args.mesh in
     let d = c.args.buffer.now in
-    let long = bytes m _ _ c.in_ok-check_tables.ensures c.counts_of-counts.ensures c.layout_of-at.ensures in
+    let long = bytes (goal.at.returns-then-buffer-at-clause-answer c).After-layout_of-at in
     (buffer_refused m d (passed m c.in_ok-check_tables.ensures) (subst (λ (n : ℕ). length d < n) long c.if-buffer-at.true)).answer
 
 pub returns-then-buffer-at-clause-output : goal.returns-then-buffer-at-clause-output
 returns-then-buffer-at-clause-output c =
     let m = mesh_in c.args.mesh in
     let d = c.args.buffer.now in
-    let long = bytes m _ _ c.in_ok-check_tables.ensures c.counts_of-counts.ensures c.layout_of-at.ensures in
+    let long = bytes (goal.at.returns-then-buffer-at-clause-output c).After-layout_of-at in
     (buffer_refused m d (passed m c.in_ok-check_tables.ensures) (subst (λ (n : ℕ). length d < n) long c.if-buffer-at.true)).output
 
 pub put_mesh-requires : goal.put_mesh-requires
 put_mesh-requires c =
     let m = mesh_in c.args.mesh in
     let d = c.args.buffer.now in
-    let long = bytes m _ _ c.in_ok-check_tables.ensures c.counts_of-counts.ensures c.layout_of-at.ensures in
-    (sym c.in_ok-check_tables.ensures, c.counts_of-counts.ensures, c.layout_of-at.ensures.width, subst (λ (n : ℕ). n ≤ length d) long c.if-buffer-at.false)
+    let long = bytes (goal.at.put_mesh-requires c).After-layout_of-at in
+    (sym c.in_ok-check_tables.ensures, counts (goal.at.put_mesh-requires c).After-counts_in-counts, c.layout_of-at.ensures.width, subst (λ (n : ℕ). n ≤ length d) long c.if-buffer-at.false)
 
 pub returns-clause-answer : goal.returns-clause-answer
 returns-clause-answer c =
     let m = mesh_in c.args.mesh in
     let d = c.args.buffer.now in
-    let long = bytes m _ _ c.in_ok-check_tables.ensures c.counts_of-counts.ensures c.layout_of-at.ensures in
+    let long = bytes (goal.at.returns-clause-answer c).After-layout_of-at in
     ap (λ (n : ℕ). record { refusal = 0; count = n }) long
     ∙ (accepted_writing m d (passed m c.in_ok-check_tables.ensures) (subst (λ (n : ℕ). n ≤ length d) long c.if-buffer-at.false)).answer
 
@@ -74,7 +82,7 @@ pub returns-clause-output : goal.returns-clause-output
 returns-clause-output c =
     let m = mesh_in c.args.mesh in
     let d = c.args.buffer.now in
-    let long = bytes m _ _ c.in_ok-check_tables.ensures c.counts_of-counts.ensures c.layout_of-at.ensures in
+    let long = bytes (goal.at.returns-clause-output c).After-layout_of-at in
     c.put_mesh.ensures
     ∙ (accepted_writing m d (passed m c.in_ok-check_tables.ensures) (subst (λ (n : ℕ). n ≤ length d) long c.if-buffer-at.false)).output
 
@@ -86,6 +94,6 @@ pub returns-clause-inverse : goal.returns-clause-inverse
 returns-clause-inverse c =
     let m = mesh_in c.args.mesh in
     let d = c.args.buffer.now in
-    let long = bytes m _ _ c.in_ok-check_tables.ensures c.counts_of-counts.ensures c.layout_of-at.ensures in
+    let long = bytes (goal.at.returns-clause-inverse c).After-layout_of-at in
     let written = accepted_writing m d (passed m c.in_ok-check_tables.ensures) (subst (λ (n : ℕ). n ≤ length d) long c.if-buffer-at.false) in
     promised_mesh m d _ _ (ap (λ (n : ℕ). record { refusal = 0; count = n }) long ∙ written.answer) (c.put_mesh.ensures ∙ written.output) refl

@@ -1,15 +1,12 @@
 -- The header, its width and the body in a row (`FileChecks`).
 use Rattle.std.proofs.lemmas.Result.{err_from_is_err_and}
-use Rattle.stored.proofs.FileChecks.{counts_refused, counts_passed, width_refused, header_passed, body_refused, file_passed}
+use Rattle.stored.proofs.FileChecks.{counts_refused, width_refused, header_passed, body_refused, file_passed}
 use Rattle.stored.proofs.file.check_file.Goals as goal
 
 pub returns-in_err-counts : goal.returns-in_err-counts
 returns-in_err-counts c =
     let p = err_from_is_err_and c.from_residual.result c.from_residual.ensures.1 in
     rw (p.1, p.2) (counts_refused c.args.s.now _ c.in_err-counts.ensures)
-
-pub check_width-requires : goal.check_width-requires
-check_width-requires c = counts_passed c.args.s.now _ c.in_ok-counts.ensures
 
 pub returns-in_err-check_width : goal.returns-in_err-check_width
 returns-in_err-check_width c =

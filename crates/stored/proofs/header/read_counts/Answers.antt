@@ -19,7 +19,7 @@ returns-then-out_of_range c =
     let s = c.args.s.now in
     let same = counts_same s c.get_field.ensures c.get_field-2.ensures c.get_field-3.ensures c.get_field-4.ensures c.get_field-5.ensures in
     header_range s c.if-s-lt-HEADER_BYTES.false (sym c.get_field-form.ensures ∙ c.if-form-ne1.false)
-    (ap out_of_range (sym (c.sizes_of.ensures ∙ same)) ∙ sym c.out_of_range.ensures ∙ c.if-out_of_range.true)
+    (ap out_of_range (sym (c.from.ensures.0 ∙ same)) ∙ sym c.out_of_range.ensures ∙ c.if-out_of_range.true)
 
 pub returns : goal.returns
 returns c =
@@ -27,4 +27,4 @@ returns c =
     let same = counts_same s c.get_field.ensures c.get_field-2.ensures c.get_field-3.ensures c.get_field-4.ensures c.get_field-5.ensures in
     ap (λ (x : Counts). counts_answer_of (Ok x)) same
     ∙ header_passed s c.if-s-lt-HEADER_BYTES.false (sym c.get_field-form.ensures ∙ c.if-form-ne1.false)
-    (ap out_of_range (sym (c.sizes_of.ensures ∙ same)) ∙ sym c.out_of_range.ensures ∙ c.if-out_of_range.false)
+    (ap out_of_range (sym (c.from.ensures.0 ∙ same)) ∙ sym c.out_of_range.ensures ∙ c.if-out_of_range.false)

@@ -4,22 +4,17 @@ use Rattle.rules.specs.StoredForm.{header_fields}
 use Rattle.bits.specs.Writing.{put_at, put_all}
 use Rattle.stored.proofs.writing.put_header.Goals as goal
 
+-- a field behind bit n of a buffer that is D by now
+behind : {q r n : ℕ} {d e D : List ℕ} (k v : ℕ) → (q ≡ n) × (d ≡ D) → (r ≡ q + k) × (e ≡ put_at d q k v) → (r ≡ n + k) × (e ≡ put_at D n k v)
+behind k v h e = (e.0 ∙ ap (λ (x : ℕ). x + k) h.0, e.1 ∙ ap₂ (λ (l : List ℕ) (x : ℕ). put_at l x k v) h.1 h.0)
+
 pub returns : goal.returns
 unfolding put_all header_fields
 returns c =
-    let a = c.args in
-    let q1 : c.put_field-at.result ≡ 4 = c.put_field-at.ensures.0 in
-    let d1 = c.put_field-at.ensures.1 in
-    let q2 : c.put_field-at-2.result ≡ 9 = c.put_field-at-2.ensures.0 ∙ ap (λ (x : ℕ). x + 5) q1 in
-    let d2 = c.put_field-at-2.ensures.1 ∙ ap₂ (λ (l : List ℕ) (x : ℕ). put_at l x 5 a.width) d1 q1 in
-    let q3 : c.put_field-at-3.result ≡ 29 = c.put_field-at-3.ensures.0 ∙ ap (λ (x : ℕ). x + 20) q2 in
-    let d3 = c.put_field-at-3.ensures.1 ∙ ap₂ (λ (l : List ℕ) (x : ℕ). put_at l x 20 a.c.vertices) d2 q2 in
-    let q4 : c.put_field-at-4.result ≡ 47 = c.put_field-at-4.ensures.0 ∙ ap (λ (x : ℕ). x + 18) q3 in
-    let d4 = c.put_field-at-4.ensures.1 ∙ ap₂ (λ (l : List ℕ) (x : ℕ). put_at l x 18 a.c.hexes) d3 q3 in
-    let q5 : c.put_field-at-5.result ≡ 65 = c.put_field-at-5.ensures.0 ∙ ap (λ (x : ℕ). x + 18) q4 in
-    let d5 = c.put_field-at-5.ensures.1 ∙ ap₂ (λ (l : List ℕ) (x : ℕ). put_at l x 18 a.c.quads) d4 q4 in
-    let q6 : c.put_field-at-6.result ≡ 83 = c.put_field-at-6.ensures.0 ∙ ap (λ (x : ℕ). x + 18) q5 in
-    let d6 = c.put_field-at-6.ensures.1 ∙ ap₂ (λ (l : List ℕ) (x : ℕ). put_at l x 18 a.c.segments) d5 q5 in
-    let q7 : c.put_field.result ≡ 101 = c.put_field.ensures.0 ∙ ap (λ (x : ℕ). x + 18) q6 in
-    let d7 = c.put_field.ensures.1 ∙ ap₂ (λ (l : List ℕ) (x : ℕ). put_at l x 18 a.c.points) d6 q6 in
-    (q7, d7)
+    let n = c.args.c in
+    let width = behind 5 c.args.width c.put_field-at.ensures c.put_field-at-2.ensures in
+    let vertices = behind 20 n.vertices width c.put_field-at-3.ensures in
+    let hexes = behind 18 n.hexes vertices c.put_field-at-4.ensures in
+    let quads = behind 18 n.quads hexes c.put_field-at-5.ensures in
+    let segments = behind 18 n.segments quads c.put_field-at-6.ensures in
+    behind 18 n.points segments c.put_field.ensures

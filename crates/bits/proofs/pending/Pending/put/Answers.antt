@@ -5,6 +5,7 @@ use Rattle.rules.specs.Bits.{bytes_of}
 use Rattle.bits.specs.declared.pending.Pending.{Pending}
 use Rattle.bits.specs.Writing.{Bytes, put_at}
 use Rattle.bits.proofs.Waiting.{joined, put_first}
+use Rattle.bits.proofs.Windows.{part_put}
 use Rattle.bits.proofs.pending.Pending.put.Goals as goal
 
 -- what the bits together are
@@ -35,7 +36,7 @@ returns c =
     let bytes : Bytes d = λ j. (search rules) in
     let same = bits a.self a.k a.v _ _ c.append-bits.ensures c.from.ensures in
     let j = joined d a.self a.k a.v x bytes c.requires.1 (omega arith) same in
-    let first = c.put_bytes.ensures ∙ ap (λ (y : ℕ). sets d a.self.at (bytes_of 4 y)) c.cut.ensures in (
+    let first = part_put d _ a.self.at 4 c.cut.result (omega arith) c.put_bytes.ensures ∙ ap (λ (y : ℕ). sets d a.self.at (bytes_of 4 y)) c.cut.ensures in (
       omega arith,
       ap₂ (λ (l : List ℕ) (y : ℕ). put_at l (8 * (a.self.at + 4)) left y) first c.cut-2.ensures
           ∙ put_first d a.self.at count x bytes (omega arith) (omega arith) j.small

@@ -1,8 +1,8 @@
 -- The bits, with zero bits behind them, are whole bytes (`put_bytes`).
-use Rattle.std.proofs.Common.{ℕ, ◌+◌, ◌*◌, ◌/◌, ◌^◌, ◌-◌, refl, ap, ◌∙◌, add-zero, rules}
+use Rattle.std.proofs.Common.{ℕ, ◌+◌, ◌*◌, ◌/◌, ◌^◌, ◌-◌, refl, ap, ◌∙◌, add-zero, arith, rules}
 use Rattle.std.proofs.lemmas.List.Edits.{sets}
 use Rattle.rules.specs.Bits.{bytes_of}
-use Rattle.bits.proofs.Windows.{put_bytes}
+use Rattle.bits.proofs.Windows.{part_put, put_bytes}
 use Rattle.bits.proofs.pending.Pending.settle.Goals as goal
 
 pub returns : goal.returns
@@ -11,7 +11,7 @@ returns c =
     let p = c.args.self in
     let n : ℕ = (p.count + 7) / 8 in (
       refl,
-      c.put_bytes.ensures
+      part_put d _ p.at n c.append-bits.result (omega arith) c.put_bytes.ensures
           ∙ ap (λ (x : ℕ). sets d p.at (bytes_of n x)) (c.append-bits.ensures ∙ add-zero (p.bits * 2 ^ (8 * n - p.count)))
           ∙ put_bytes d p.at p.count p.bits (λ j. (search rules)) p.spelled c.requires.0,
     )
