@@ -5,10 +5,6 @@ use Prim.Native.Nat.{ℕ, zero, suc, ◌*◌}
 use lib.ListN.{length}
 use Rattle.rules.specs.declared.Counts.{Counts}
 use Rattle.rules.specs.declared.CountsAnswer.{CountsAnswer}
-use Rattle.rules.specs.declared.Refusal.{Refusal}
-use Rattle.rules.specs.Answers.{number_of}
-use Rattle.rules.proofs.Named.{number_is_suc}
-use native.Mathlib.Omega.{arith}
 use Rattle.rules.specs.Mesh.{Mesh, topology}
 use Rattle.rules.specs.Averaging.{refined}
 use Rattle.rules.specs.Counts.{counts_of, finished_counts}
@@ -16,6 +12,7 @@ use Rattle.rules.specs.EntryPoints.{counts_answer, result_tables, front, refinin
 use Rattle.rules.specs.StoredForm.{header_of, stored_mesh, reading_refusal, reading_answer, reading_output}
 use Rattle.rules.specs.Viewer.{fixed_counts, fixed_lent, and_then, stored_refining_refusal}
 use Rattle.stored.proofs.Form.{Sized, stored_under, under_sized}
+use Rattle.plan.proofs.Refusals.{answer_number}
 use Rattle.tables.specs.Lent.{Room}
 use Rattle.fixed.proofs.Fronts.{front_result, room_result}
 
@@ -46,14 +43,6 @@ module _ {out work : Mesh} {words longs : List ℕ} (f : FixedMemory out work wo
 
 -- ---- reading before it
 
--- a refusal by name is one
-pub not_zero : (r : Refusal) → number_of r ≡ 0 → ⊥
-not_zero r e = let s = number_is_suc r in omega (arith, s.1)
-
-pub answer_number : (k : ℕ) (c : Counts) → (counts_answer k c).refusal ≡ k
-answer_number zero c = refl
-answer_number (suc k) c = refl
-
 first_decides : (k later : ℕ) (c d : Counts) → (k ≡ 0 → ⊥) → counts_answer k c ≡ counts_answer (and_then k later) d
 first_decides zero later c d h = absurd (h refl)
 first_decides (suc k) later c d h = refl
@@ -69,12 +58,15 @@ pub record Reading (s : List ℕ) (tables out : Mesh) (r : CountsAnswer) : Type 
   pub answer : r ≡ reading_answer s tables
   pub output : out ≡ reading_output s tables
 
+pub reading : {s : List ℕ} {tables out : Mesh} {r : CountsAnswer} → counts_of tables ≡ fixed_counts → r ≡ reading_answer s tables → out ≡ reading_output s tables → Reading s tables out r
+reading a b c = record { sizes = a; answer = b; output = c }
+
 module _ {s : List ℕ} {tables out : Mesh} {r : CountsAnswer} (d : Reading s tables out r) where
   answer_is : r ≡ counts_answer (reading_refusal s fixed_counts) (header_of s).counts
   unfolding reading_answer
   answer_is = rw d.sizes at d.answer
 
-  refusal_is : r.refusal ≡ reading_refusal s fixed_counts
+  pub refusal_is : r.refusal ≡ reading_refusal s fixed_counts
   refusal_is = ap (λ (a : CountsAnswer). a.refusal) answer_is ∙ answer_number (reading_refusal s fixed_counts) (header_of s).counts
 
   -- reading's refusal is the answer, and the output is left as it was
@@ -103,8 +95,10 @@ module _ {s : List ℕ} {tables out : Mesh} {r : CountsAnswer} (d : Reading s ta
     unfolding stored_refining_refusal
     then_refining rounds = ap (λ (k : ℕ). and_then k (refining_refusal (stored_mesh s) rounds fixed_lent)) none
 
-    pub read_front : front r.counts out ≡ stored_mesh s
-    read_front = rw (counts_are, stored) (front_result (header_of s) tables (stored_mesh s) (stored_sized s))
+    -- of the tables by another name, as the code reads them
+    module _ {t : Mesh} (same : t ≡ out) where
+      pub read_front : {m : Mesh} → m ≡ front r.counts t → m ≡ stored_mesh s
+      read_front e = e ∙ rw (same, counts_are, stored) (front_result (header_of s) tables (stored_mesh s) (stored_sized s))
 
-    pub read_room : Room r.counts out
-    read_room = rw (counts_are, stored) (room_result (header_of s) tables (stored_mesh s) (stored_sized s))
+      pub read_room : Room r.counts t
+      read_room = rw (same, counts_are, stored) (room_result (header_of s) tables (stored_mesh s) (stored_sized s))

@@ -16,10 +16,9 @@ use Rattle.soundness.specs.Accepted.{Accepted}
 use Rattle.soundness.proofs.Rounds.{refined_counts, refined_entire}
 use Rattle.stored.specs.Form.{header_for}
 use Rattle.stored.proofs.Form.{Sized, whole_sized}
-use Rattle.plan.proofs.Refusals.{check_passes, both_pass, rounds_then, rounds_pass}
+use Rattle.plan.proofs.Refusals.{answer_number, check_passes, both_pass, rounds_then, rounds_pass}
 use Rattle.tables.specs.Lent.{Room}
 use Rattle.fixed.proofs.Fronts.{front_result, room_result}
-use Rattle.fixed.proofs.Answers.{answer_number}
 
 -- ---- what refining lets through
 
@@ -46,6 +45,10 @@ pub record Refining (s : List ℕ) (rounds : ℕ) (old out : Mesh) (r : CountsAn
   pub answer : r ≡ counts_answer (stored_refining_refusal s rounds) (finished_counts rounds (topology (stored_mesh s)))
   pub output : out ≡ result_tables (stored_refining_refusal s rounds) old (refined rounds (stored_mesh s))
 
+pub refining : {s : List ℕ} {rounds : ℕ} {old out : Mesh} {r : CountsAnswer} → r ≡ counts_answer (stored_refining_refusal s rounds) (finished_counts rounds (topology (stored_mesh s)))
+    → out ≡ result_tables (stored_refining_refusal s rounds) old (refined rounds (stored_mesh s)) → Refining s rounds old out r
+refining a b = record { answer = a; output = b }
+
 module _ {s : List ℕ} {rounds : ℕ} {old out : Mesh} {r : CountsAnswer} (d : Refining s rounds old out r) where
   pub refusal_is : r.refusal ≡ stored_refining_refusal s rounds
   refusal_is = ap (λ (a : CountsAnswer). a.refusal) d.answer ∙ answer_number (stored_refining_refusal s rounds) _
@@ -67,5 +70,10 @@ module _ {s : List ℕ} {rounds : ℕ} {old out : Mesh} {r : CountsAnswer} (d : 
     pub finished_front : front r.counts out ≡ refined rounds (stored_mesh s)
     finished_front = rw (counts_are, stored) (front_result (header_for _) old _ (finished_sized (stored_mesh s) rounds refining_accepted.accepted))
 
-    pub finished_room : Room r.counts out
-    finished_room = rw (counts_are, stored) (room_result (header_for _) old _ (finished_sized (stored_mesh s) rounds refining_accepted.accepted))
+    -- of the tables by another name, as the code reads them
+    module _ {t : Mesh} (same : t ≡ out) where
+      pub finished_mesh : {m : Mesh} → m ≡ front r.counts t → m ≡ refined rounds (stored_mesh s)
+      finished_mesh e = e ∙ ap (front r.counts) same ∙ finished_front
+
+      pub finished_room : Room r.counts t
+      finished_room = rw (same, counts_are, stored) (room_result (header_for _) old _ (finished_sized (stored_mesh s) rounds refining_accepted.accepted))

@@ -13,10 +13,15 @@ ghost use Rattle.rules.specs.StoredForm.{stored_mesh};
 ghost use Rattle.rules.specs.Viewer.{fixed_counts, fixed_lent, stored_refining_refusal};
 ghost use Rattle.tables.specs.Lent.{mesh_in, mesh_at, SameSlices};
 
+pub use arrays::Arrays;
 use refine::refine;
+use rounds::WorkingNumbers;
 use rules::{Counts, Refusal};
 use stored::read;
 use tables::{LentTables, MeshTables};
+
+// The tables of a mesh that is read.
+pub mod arrays;
 
 // Refines a mesh, with working memory of the fixed sizes.
 fn refine_mesh(mesh: MeshTables, rounds: u32, output: &mut LentTables) -> Result<Counts, Refusal>
@@ -27,21 +32,15 @@ fn refine_mesh(mesh: MeshTables, rounds: u32, output: &mut LentTables) -> Result
         mesh_at output.new ≡ result_tables (refining_refusal m rounds fixed_lent) (mesh_at output.old) (refined rounds m) }
     ensures same_slices { SameSlices output.old output.new }
 {
-    let mut vertices = [0i32; 3000];
-    let mut hexes = [0u32; 2048];
-    let mut quads = [0u32; 1024];
-    let mut segments = [0u32; 512];
-    let mut points = [0u32; 256];
-    let mut working = LentTables {
-        vertices: &mut vertices,
-        hexes: &mut hexes,
-        quads: &mut quads,
-        segments: &mut segments,
-        points: &mut points,
-    };
+    let mut arrays = Arrays::new();
+    let mut working = arrays.lend();
     let mut words = [0u32; 8000];
     let mut longs = [0u64; 3000];
-    refine(mesh, rounds, output, &mut working, &mut words, &mut longs)
+    let mut numbers = WorkingNumbers {
+        words: &mut words,
+        longs: &mut longs,
+    };
+    refine(mesh, rounds, output, &mut working, &mut numbers)
 }
 
 // Reads a stored mesh and refines it.
@@ -53,18 +52,8 @@ pub fn refine_stored(bytes: &[u8], rounds: u32, output: &mut LentTables) -> Resu
         mesh_at output.new ≡ result_tables (stored_refining_refusal s rounds) (mesh_at output.old) (refined rounds (stored_mesh s)) }
     ensures same_slices { SameSlices output.old output.new }
 {
-    let mut vertices = [0i32; 3000];
-    let mut hexes = [0u32; 2048];
-    let mut quads = [0u32; 1024];
-    let mut segments = [0u32; 512];
-    let mut points = [0u32; 256];
-    let mut tables = LentTables {
-        vertices: &mut vertices,
-        hexes: &mut hexes,
-        quads: &mut quads,
-        segments: &mut segments,
-        points: &mut points,
-    };
+    let mut arrays = Arrays::new();
+    let mut tables = arrays.lend();
     let counts = read(bytes, &mut tables)?;
     refine_mesh(tables.as_mesh().front(counts), rounds, output)
 }

@@ -8,14 +8,13 @@ use native.Mathlib.Numerals.{add-one}
 use native.Mathlib.Omega.{arith}
 use lib.Dec.{eqb}
 use lib.ListN.{length, take, get_or, set, length-append, length-set}
-use lib.Seq.{take-suc, take_all, length-take-le, get_or-set_same, get_or-set_other}
+use lib.Seq.{take-suc, length-take-le, get_or-set_same, get_or-set_other}
 use borrow.Author.Tests.{eqb-true, eqb-false, eq-eqb}
 use Rattle.rules.specs.Lists.{keep}
 use Rattle.rules.specs.Mesh.{Mesh}
 use Rattle.lists.proofs.Membership.{length_keep}
-use Rattle.checks.specs.Marked.{Marked}
 use Rattle.irregular.specs.Times.{times}
-use Rattle.irregular.specs.Tallied.{Tallied, Counted, Ranked}
+use Rattle.irregular.specs.Tallied.{Tallied, Counted}
 use Rattle.irregular.proofs.Keeping.{keep_append}
 
 -- ---- how often
@@ -104,10 +103,6 @@ module _ {first rank : ℕ} {ranks old new : List ℕ} (table : List ℕ) (i : �
             ∙ at.counts v k
             ∙ ap (λ (c : ℕ). get_or old v 0 + c) (other v (λ q m. eqb-false v place e (omega arith)))
 
-pub tally_end : {first rank : ℕ} {ranks old new : List ℕ} (table : List ℕ) (i : ℕ) → Tallied first rank ranks (take i table) old new → length table ≤ i
-    → Tallied first rank ranks table old new
-tally_end {first} {rank} {ranks} {old} {new} table i at h = subst (λ (t : List ℕ). Tallied first rank ranks t old new) (take_all i table h) at
-
 -- ---- four tables, one after the other
 
 -- a table adds no more than its length
@@ -122,15 +117,3 @@ module _ {first : ℕ} {m : Mesh} {ranks w₀ w₁ w₂ w₃ w₄ : List ℕ} (t
     kept = t₃.kept ∙ t₂.kept ∙ t₁.kept ∙ t₀.kept ∙ e;
     counts = λ v l. omega (arith, none v l, t₀.counts v l, t₁.counts v l, t₂.counts v l, t₃.counts v l);
   }
-
--- ---- three marks, one over the other
-
-pub ranked_all : {first : ℕ} {m : Mesh} {w₀ w₁ w₂ w₃ : List ℕ} → Marked first 1 w₀ w₁ m.quads → Marked first 2 w₁ w₂ m.segments → Marked first 3 w₂ w₃ m.points
-    → ((v : ℕ) → v < length w₀ → get_or w₀ v 0 ≡ 0) → Ranked first m w₃
-ranked_all {first} {m} {w₀} {w₁} {w₂} {w₃} m₁ m₂ m₃ none = record {
-  at = λ v l.
-      let l₂ : v < length w₂ = omega (arith, m₃.kept) in
-      let l₁ : v < length w₁ = omega (arith, m₂.kept) in
-      let l₀ : v < length w₀ = omega (arith, m₁.kept) in
-      rw (m₃.at v l₂, m₂.at v l₁, m₁.at v l₀, none v l₀);
-}

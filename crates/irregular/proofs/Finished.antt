@@ -4,10 +4,10 @@ use mathlib.Core.Bool.{Bool, true, false, not, cond}
 use mathlib.Core.List.{List}
 use Prim.Native.Nat.{ℕ, ◌+◌, ◌/◌, ◌^◌, ◌<◌}
 use native.Mathlib.Omega.{arith}
-use lib.Dec.{eqb, lit<}
+use lib.Dec.{eqb}
 use lib.ListN.{length, get_or}
 use Rattle.std.specs.List.{zip, count_by}
-use Rattle.rules.specs.Lists.{keep, up_from, has}
+use Rattle.rules.specs.Lists.{keep, up_from}
 use Rattle.rules.specs.Mesh.{Mesh}
 use Rattle.irregular.specs.Times.{times, irregular_by, irregular_in}
 use Rattle.irregular.specs.Tallied.{Ranked, Counted, unusual}
@@ -41,18 +41,9 @@ usual p s q h = go (eqb p 0) refl (eqb s 0) refl (eqb q 0) refl
     go true x true y false z = rw (x, y, z, second q)
     go true x true y true z = rw (x, y, z, first h)
 
-depth_below : (a b c : Bool) → cond a 3 (cond b 2 (cond c 1 0)) < 4
-depth_below true b c = lit< tt
-depth_below false true c = lit< tt
-depth_below false false true = lit< tt
-depth_below false false false = lit< tt
-
 -- ---- a window, once its tables are marked and counted
 
 module _ {first : ℕ} {m : Mesh} {ranks : List ℕ} (r : Ranked first m ranks) where
-  pub ranks_below : (v : ℕ) → v < length ranks → get_or ranks v 0 < 4
-  ranks_below v l = let e = r.at v l in rw e (depth_below (has (first + v) m.points) (has (first + v) m.segments) (has (first + v) m.quads))
-
   module _ {valences : List ℕ} (c : Counted first m ranks valences) where
     unusual_is : (v : ℕ) → v < length ranks → unusual (get_or ranks v 0, get_or valences v 0) ≡ irregular_in m (first + v)
     unusual_is v l =

@@ -14,9 +14,8 @@ ghost use Rattle.lines.specs.Fitting.{output_size};
 
 use crate::rows::{push_mesh_lines, push_refused_line};
 use crate::text::Text;
-use fixed::refine_stored;
+use fixed::{Arrays, refine_stored};
 use rules::Refusal;
-use tables::LentTables;
 
 // The kinds of cells and their letters.
 pub mod kinds;
@@ -36,18 +35,8 @@ fn push_stored_lines(bytes: &[u8], rounds: u32, out: &mut Text)
     ensures { let s = bytes.now in
         Printed out.old out.new (listed (stored_refining_refusal s rounds) (refined rounds (stored_mesh s))) }
 {
-    let mut vertices = [0i32; 3000];
-    let mut hexes = [0u32; 2048];
-    let mut quads = [0u32; 1024];
-    let mut segments = [0u32; 512];
-    let mut points = [0u32; 256];
-    let mut tables = LentTables {
-        vertices: &mut vertices,
-        hexes: &mut hexes,
-        quads: &mut quads,
-        segments: &mut segments,
-        points: &mut points,
-    };
+    let mut arrays = Arrays::new();
+    let mut tables = arrays.lend();
     match refine_stored(bytes, rounds, &mut tables) {
         Ok(counts) => push_mesh_lines(tables.as_mesh().front(counts), out),
         Err(refusal) => push_refused_line(refusal, out),

@@ -12,9 +12,9 @@ use Rattle.rules.specs.Mesh.{Mesh, topology}
 use Rattle.rules.specs.Averaging.{refined}
 use Rattle.rules.specs.Refusals.{mesh_checks}
 use Rattle.rules.specs.EntryPoints.{result_buffer, front_of, front, irregular_count, irregular_answer}
-use Rattle.rules.specs.StoredForm.{header_of, stored_mesh, stored_form, reading_refusal, reading_answer, writing_refusal, writing_answer, writing_output}
+use Rattle.rules.specs.StoredForm.{stored_mesh, stored_form, reading_refusal, writing_refusal, writing_answer, writing_output}
 use Rattle.rules.specs.Viewer.{fixed_counts, and_then, stored_refining_refusal, signed, viewer_refusal, viewer_answer, viewer_output, viewer_irregular_count}
-use Rattle.fixed.proofs.Answers.{Reading, answer_number}
+use Rattle.fixed.proofs.Answers.{Reading, refusal_is as read_refusal}
 use Rattle.fixed.proofs.Finished.{Refining, refusal_is}
 use Rattle.mlca.proofs.Numbers.{first_decides, of_answer}
 
@@ -61,19 +61,14 @@ module _ {s : List ℕ} {rounds : ℕ} {old out : Mesh} {r : CountsAnswer} (d : 
 -- ---- the irregular count
 
 module _ {s : List ℕ} {tables out : Mesh} {r : CountsAnswer} (d : Reading s tables out r) where
-  read_number : r.refusal ≡ reading_refusal s fixed_counts
-  unfolding reading_answer
-  read_number =
-      ap (λ (a : CountsAnswer). a.refusal) (rw d.sizes at d.answer) ∙ answer_number (reading_refusal s fixed_counts) (header_of s).counts
-
   pub reading_refused : (r.refusal ≡ 0 → ⊥) → signed r.refusal 0 ≡ viewer_irregular_count s
   unfolding viewer_irregular_count
-  reading_refused h = rw read_number (first_decides (reading_refusal s fixed_counts) _ _ (λ k. h (read_number ∙ k)))
+  reading_refused h = rw (read_refusal d) (first_decides (reading_refusal s fixed_counts) _ _ (λ k. h (read_refusal d ∙ k)))
 
   pub then_counted : r.refusal ≡ 0 → signed (mesh_checks (stored_mesh s) 0) (irregular_count (topology (stored_mesh s))) ≡ viewer_irregular_count s
   unfolding viewer_irregular_count
   then_counted h =
-      ap (λ (k : ℕ). signed (and_then k (mesh_checks (stored_mesh s) 0)) (irregular_count (topology (stored_mesh s)))) (sym h ∙ read_number)
+      ap (λ (k : ℕ). signed (and_then k (mesh_checks (stored_mesh s) 0)) (irregular_count (topology (stored_mesh s)))) (sym h ∙ read_refusal d)
 
 -- the front of tables is no longer than they are
 pub front_fits : (c : Counts) (t : Mesh) (b : ℕ) → length t.vertices < b → length (front c t).vertices < b

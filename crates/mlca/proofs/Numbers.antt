@@ -6,16 +6,12 @@ use Prim.Native.Nat.{ℕ, zero, suc, ◌/◌, ◌*◌, ◌^◌, ◌≤◌, ◌<�
 use native.Mathlib.Omega.{arith}
 use lib.Dec.{ltb}
 use lib.ListN.{length}
-use lib.IntN.{pos, neg_ℤ, ◌-ℤ◌, +ℤ_idl}
-use mir.Val.{SFits, to_z}
-use mir.Syntax.{w64}
-use mir.ValLaws.{to_z_pos}
+use lib.IntN.{pos, neg_ℤ}
 use borrow.Author.Tests.{ltb-false}
 use Rattle.std.specs.Prelude.{Result, Ok, Err, IfOk}
 use Rattle.rules.specs.declared.CountAnswer.{CountAnswer}
 use Rattle.rules.specs.declared.Refusal.{Refusal}
-use Rattle.rules.specs.Answers.{number_of, count_answer_of}
-use Rattle.fixed.proofs.Answers.{not_zero}
+use Rattle.rules.specs.Answers.{count_answer_of}
 use Rattle.rules.specs.Lists.{up_from}
 use Rattle.rules.specs.Mesh.{Mesh, topology}
 use Rattle.rules.specs.Refusals.{check, mesh_checks}
@@ -26,13 +22,6 @@ use Rattle.lists.proofs.Membership.{length_keep, length_up_from}
 use Rattle.stored.proofs.Acceptance.{mesh_passes, passing}
 
 -- ---- below zero
-
-pub neg_fits : (n : ℕ) → n < 2 ^ 63 → SFits w64 (neg_ℤ (pos n))
-neg_fits zero h = record { sfits = h }
-neg_fits (suc n) h = record { sfits = omega arith }
-
-pub minus : (n : ℕ) → n < 2 ^ 63 → pos 0 -ℤ to_z w64 n ≡ neg_ℤ (pos n)
-minus n h = rw (to_z_pos w64 n h) (+ℤ_idl (neg_ℤ (pos n)))
 
 pub below_zero : (n count : ℕ) → (n ≡ 0 → ⊥) → neg_ℤ (pos n) ≡ signed n count
 below_zero zero count h = absurd (h refl)
@@ -87,9 +76,3 @@ irregular_fits m w l e =
 pub fits_if_ok : (r : Result ℕ Refusal) (b : ℕ) → (count_answer_of r).count < b → IfOk r (λ (n : ℕ). n < b)
 fits_if_ok (Ok n) b h = h
 fits_if_ok (Err r) b h = tt
-
-pub signed_ok : (n : ℕ) → pos n ≡ signed (count_answer_of (Ok n)).refusal (count_answer_of (Ok n)).count
-signed_ok n = refl
-
-pub signed_err : (r : Refusal) → neg_ℤ (pos (number_of r)) ≡ signed (count_answer_of (Err r)).refusal (count_answer_of (Err r)).count
-signed_err r = below_zero (number_of r) 0 (not_zero r)

@@ -3,7 +3,6 @@ use mathlib.Core.Path.{◌≡◌, refl, sym, ap, subst, ◌∙◌}
 use mathlib.Core.Bool.{true}
 use mathlib.Core.List.{List}
 use Prim.Native.Nat.{ℕ, zero, suc}
-use native.Mathlib.Omega.{arith}
 use lib.Dec.{T}
 use lib.ListN.{length, take, drop, replicate}
 use lib.Seq.{take_at}
@@ -15,9 +14,10 @@ use Rattle.rules.specs.Averaging.{refined}
 use Rattle.rules.specs.Accuracy.{Property3}
 use Rattle.rules.specs.EntryPoints.{result_buffer, refining_refusal, range_kept}
 use Rattle.rules.specs.StoredForm.{stored_mesh, stored_form, reading_refusal, writing_refusal}
-use Rattle.rules.specs.Viewer.{fixed_counts, fixed_lent, and_then, stored_refining_refusal, signed, viewer_refusal, viewer_answer, viewer_output}
+use Rattle.rules.specs.Viewer.{fixed_counts, fixed_lent, stored_refining_refusal, signed, viewer_refusal, viewer_answer, viewer_output}
 use Rattle.accuracy.proofs.Accepted.{accepted_property_3, range_kept_lem}
 use Rattle.stored.proofs.Acceptance.{mesh_passes}
+use Rattle.plan.proofs.Refusals.{both_pass}
 use Rattle.stored.proofs.Inverse.{same_mesh}
 use Rattle.fixed.proofs.Finished.{Accepts, refining_accepts}
 
@@ -25,10 +25,6 @@ use Rattle.fixed.proofs.Finished.{Accepts, refining_accepts}
 counted : (k c n : ℕ) → signed k c ≡ pos n → (k ≡ 0) × (c ≡ n)
 counted zero c n e = (refl, ap mag e)
 counted (suc k) c n e = absurd (subst (λ (z : ℤ). T (non_neg z)) (sym e) tt)
-
-neither : (k later : ℕ) → and_then k later ≡ 0 → (k ≡ 0) × (later ≡ 0)
-neither zero later e = (refl, e)
-neither (suc k) later e = absurd (omega arith)
 
 -- one call: its answer r, and the bytes `out` that it leaves
 module _ (s : List ℕ) (rounds : ℕ) (buffer out : List ℕ) (r : ℤ) (answer : r ≡ viewer_answer s rounds buffer) (output : out ≡ viewer_output s rounds buffer) (n : ℕ) (e : r ≡ pos n) where
@@ -44,11 +40,11 @@ module _ (s : List ℕ) (rounds : ℕ) (buffer out : List ℕ) (r : ℤ) (answer
 
   passed : (stored_refining_refusal s rounds ≡ 0) × (writing_refusal finished (length buffer) ≡ 0)
   unfolding viewer_refusal
-  passed = neither (stored_refining_refusal s rounds) (writing_refusal finished (length buffer)) answered.0
+  passed = both_pass (stored_refining_refusal s rounds) (writing_refusal finished (length buffer)) answered.0
 
   accepts : Accepts first rounds
   unfolding stored_refining_refusal
-  accepts = refining_accepts first rounds (neither (reading_refusal s fixed_counts) (refining_refusal first rounds fixed_lent) passed.0).1
+  accepts = refining_accepts first rounds (both_pass (reading_refusal s fixed_counts) (refining_refusal first rounds fixed_lent) passed.0).1
 
   -- the mesh in the bytes that it wrote
   written_mesh : stored_mesh (take n out) ≡ finished

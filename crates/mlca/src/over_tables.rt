@@ -7,11 +7,13 @@ ghost use Rattle.rules.specs.Counts.{counts_of};
 ghost use Rattle.rules.specs.EntryPoints.{front, finished_answer, refining_answer, refining_output, range_kept, cleared_tables, cleared, irregular_answer, millimetres_answer};
 ghost use Rattle.rules.specs.StoredForm.{stored_form, stored_mesh, header_answer, reading_refusal, reading_answer, reading_output, writing_refusal, writing_answer, writing_output};
 
+use rounds::WorkingNumbers;
 use rules::{CountAnswer, CountsAnswer, MillimetresAnswer};
 use tables::{LentTables, MeshTables};
 
 // Refining, for every input: the answer of rule 9.2; the finished mesh at the front of the output tables, which a refusal leaves as they were;
 // all working memory zero; of each finished vertex and axis the third property; and every coordinate of every round in range.
+// Longer than 40 lines by C's arguments, slices one by one, and by a contract over them: the body only gathers them.
 #[unsafe(no_mangle)]
 pub extern "C" fn mlca_refine_tables(
     vertices: &[i32],
@@ -71,14 +73,11 @@ pub extern "C" fn mlca_refine_tables(
         segments: working_segments,
         points: working_points,
     };
-    CountsAnswer::from(refine::refine(
-        mesh,
-        rounds,
-        &mut output,
-        &mut working,
-        numbers32,
-        numbers64,
-    ))
+    let mut numbers = WorkingNumbers {
+        words: numbers32,
+        longs: numbers64,
+    };
+    CountsAnswer::from(refine::refine(mesh, rounds, &mut output, &mut working, &mut numbers))
 }
 
 // The counts in a stored mesh's header, so that tables can be lent for reading. Neither the index width nor what stands behind the header is

@@ -6,13 +6,11 @@ ghost use Rattle.rules.specs.Answers.{count_answer_of};
 ghost use Rattle.rules.specs.EntryPoints.{range_kept};
 ghost use Rattle.rules.specs.StoredForm.{stored_mesh};
 ghost use Rattle.rules.specs.Viewer.{signed, viewer_answer, viewer_output, viewer_irregular_count};
-ghost use Rattle.tables.specs.Lent.{mesh_in, mesh_at, SameSlices};
 
-use fixed::refine_stored;
+use fixed::{Arrays, refine_stored};
 use irregular::irregular_count;
 use rules::Refusal;
 use stored::{read, write};
-use tables::LentTables;
 
 // A count or a refusal as one number, as C reads it.
 fn signed(found: Result<u64, Refusal>) -> i64
@@ -31,18 +29,8 @@ fn refine_bytes(stored: &[u8], rounds: u32, res: &mut [u8]) -> Result<u64, Refus
     ensures output { res.new ≡ viewer_output stored.now rounds res.old }
     ensures fits { IfOk result (λ count. count < 2 ^ 63) }
 {
-    let mut vertices = [0i32; 3000];
-    let mut hexes = [0u32; 2048];
-    let mut quads = [0u32; 1024];
-    let mut segments = [0u32; 512];
-    let mut points = [0u32; 256];
-    let mut tables = LentTables {
-        vertices: &mut vertices,
-        hexes: &mut hexes,
-        quads: &mut quads,
-        segments: &mut segments,
-        points: &mut points,
-    };
+    let mut arrays = Arrays::new();
+    let mut tables = arrays.lend();
     let counts = refine_stored(stored, rounds, &mut tables)?;
     write(tables.as_mesh().front(counts), res)
 }
@@ -64,18 +52,8 @@ fn count_bytes(stored: &[u8]) -> Result<u64, Refusal>
     ensures answer { let answer = count_answer_of result in signed answer.refusal answer.count ≡ viewer_irregular_count stored.now }
     ensures fits { IfOk result (λ count. count < 2 ^ 63) }
 {
-    let mut vertices = [0i32; 3000];
-    let mut hexes = [0u32; 2048];
-    let mut quads = [0u32; 1024];
-    let mut segments = [0u32; 512];
-    let mut points = [0u32; 256];
-    let mut tables = LentTables {
-        vertices: &mut vertices,
-        hexes: &mut hexes,
-        quads: &mut quads,
-        segments: &mut segments,
-        points: &mut points,
-    };
+    let mut arrays = Arrays::new();
+    let mut tables = arrays.lend();
     let counts = read(stored, &mut tables)?;
     let mut words = [0u32; 12545];
     irregular_count(tables.as_mesh().front(counts), &mut words)

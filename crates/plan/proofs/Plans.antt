@@ -21,9 +21,9 @@ use Rattle.counting.specs.Bounded.{Narrow}
 use Rattle.rules.specs.declared.Refusal.{Refusal}
 use Rattle.rules.specs.declared.Refusal.TheVariants.{TooManyRounds, ResultTooLarge}
 use Rattle.rules.specs.Answers.{number_of, counts_answer_of}
-use Rattle.rules.proofs.Named.{number_is_suc, refused_counts}
+use Rattle.rules.proofs.Named.{refused_counts}
 use Rattle.std.specs.Prelude.{Ok, Err}
-use Rattle.plan.proofs.Refusals.{mesh_then, first_refusal, Passed, rounds_pass}
+use Rattle.plan.proofs.Refusals.{mesh_then, not_zero, first_refusal, Passed, rounds_pass}
 
 -- ---- a plan
 
@@ -31,7 +31,7 @@ module _ (m : Mesh) (rounds : ℕ) where
   -- checks 1 to 8
   pub planned_mesh : (r : Refusal) → number_of r ≡ mesh_checks m 0 → Planned m rounds (Err r)
   planned_mesh r e =
-      first_refusal (number_of r) _ (λ z. let s = number_is_suc r in omega (arith, s.1, z))
+      first_refusal (number_of r) _ (not_zero r)
       ∙ ap (λ (k : ℕ). and_then k (check (too_many_rounds rounds) 9 (check (too_large rounds (topology m)) 10 0))) e
       ∙ sym (mesh_then m _)
 

@@ -3,10 +3,14 @@ use mathlib.Core.Path.{◌≡◌, refl, sym, ◌∙◌}
 use mathlib.Core.Bool.{Bool, true, false}
 use Prim.Native.Nat.{ℕ, zero, suc}
 use native.Mathlib.Omega.{arith}
+use Rattle.rules.specs.declared.Counts.{Counts}
+use Rattle.rules.specs.declared.Refusal.{Refusal}
+use Rattle.rules.specs.Answers.{number_of}
 use Rattle.rules.specs.Mesh.{Mesh, topology}
 use Rattle.rules.specs.Refusals.{check, partial_entry, count_out_of_range, coordinate_out_of_range, corner_out_of_range, repeated_corner, duplicate_cell, mismatched_face, isolated_vertex, table_checks, mesh_checks, too_many_rounds, too_large}
-use Rattle.rules.specs.EntryPoints.{round_checks}
+use Rattle.rules.specs.EntryPoints.{counts_answer, round_checks}
 use Rattle.rules.specs.Viewer.{and_then}
+use Rattle.rules.proofs.Named.{number_is_suc}
 use Rattle.soundness.specs.Accepted.{Accepted}
 use Rattle.soundness.proofs.Checks.{checks_accept}
 
@@ -45,6 +49,15 @@ pub rounds_then : (m : Mesh) (rounds later : ℕ) → round_checks m rounds late
 unfolding Chain
 rounds_then m rounds =
     mesh_chain m _ (one_check (too_many_rounds rounds) 8 _ (one_check (too_large rounds (topology m)) 9 (λ later. later) no_check))
+
+-- a refusal by name is one
+pub not_zero : (r : Refusal) → number_of r ≡ 0 → ⊥
+not_zero r e = let s = number_is_suc r in omega (arith, s.1)
+
+-- the refusal in an answer
+pub answer_number : (n : ℕ) (c : Counts) → (counts_answer n c).refusal ≡ n
+answer_number zero c = refl
+answer_number (suc n) c = refl
 
 pub first_refusal : (n later : ℕ) → (n ≡ 0 → ⊥) → n ≡ and_then n later
 first_refusal zero later h = absurd (h refl)

@@ -23,9 +23,10 @@ use Rattle.rules.specs.Viewer.{and_then}
 use Rattle.lists.proofs.Tests.{or_neither, false_together, is_false}
 use Rattle.plan.specs.declared.Growth.{Growth}
 use Rattle.plan.specs.Planned.{Sized}
-use Rattle.plan.proofs.Refusals.{first_refusal, rounds_then, Passed}
+use Rattle.plan.proofs.Refusals.{not_zero, first_refusal, rounds_then, Passed}
 use Rattle.plan.proofs.Plans.{plan_passed, plan_counts}
 use Rattle.rounds.specs.Front.{Room}
+use Rattle.rounds.specs.declared.working.WorkingNumbers.{WorkingNumbers}
 use Rattle.rounds.specs.Ready.{ReadyFor}
 use Rattle.refine.specs.Lengths.{lengths}
 
@@ -71,21 +72,22 @@ room_of s tables h =
 
 -- what check 11 leaves
 module _ (m : Mesh) (rounds : ℕ) (out work : Mesh) (words longs : List ℕ) (passed : Passed m rounds) (long : short_for_refining (lent_by out work words longs) (finished_counts rounds (topology m)) ≡ false) where
-  pub lent_ready : (s : Sizes) → s ≡ sizes (topology m) → ReadyFor rounds m s out work words longs
+  -- working numbers count by their length
+  pub lent_ready : (s : Sizes) → s ≡ sizes (topology m) → (numbers : WorkingNumbers) → length numbers.words.now ≡ length words → length numbers.longs.now ≡ length longs → ReadyFor rounds m s out work numbers
   unfolding short_for_refining finished_counts counts_in
-  lent_ready s e =
+  lent_ready s e numbers w l =
       let a = or_neither _ _ long in
       let b = or_neither _ _ a.1 in
       let c = or_neither _ _ b.1 in
-      subst (λ (z : Sizes). ReadyFor rounds m z out work words longs) (sym e)
+      subst (λ (z : Sizes). ReadyFor rounds m z out work numbers) (sym e)
       (record {
         accepted = passed.accepted;
         sized = refl;
         small = passed.small;
         room = room_of (sizes_after rounds (sizes (topology m))) out a.0;
         working_room = room_of (sizes_after rounds (sizes (topology m))) work b.0;
-        enough_words = ltb-false (length words) _ c.0;
-        enough_longs = ltb-false (length longs) _ c.1;
+        enough_words = omega (arith, w, ltb-false (length words) _ c.0);
+        enough_longs = omega (arith, l, ltb-false (length longs) _ c.1);
       })
 
 -- ---- a decision
@@ -112,7 +114,7 @@ module _ (m : Mesh) (rounds : ℕ) (out work : Mesh) (words longs : List ℕ) wh
   -- a refusal of checks 1 to 10
   pub refused_by_plan : (r : Refusal) → number_of r ≡ round_checks m rounds 0 → number_of r ≡ refining_refusal m rounds (lent_by out work words longs)
   refused_by_plan r e =
-      first_refusal (number_of r) _ (λ z. let s = number_is_suc r in omega (arith, s.1, z)) ∙ sym (decided (number_of r) (finished_counts rounds (topology m)) e (λ z. refl))
+      first_refusal (number_of r) _ (not_zero r) ∙ sym (decided (number_of r) (finished_counts rounds (topology m)) e (λ z. refl))
 
   module _ {p : Growth} (d : Sized m rounds p) (b : Bool) (e : b ≡ short_for_refining (lent_by out work words longs) (counts_in p.finished)) where
     tested : b ≡ short_for_refining (lent_by out work words longs) (finished_counts rounds (topology m))
@@ -128,7 +130,7 @@ module _ (m : Mesh) (rounds : ℕ) (out work : Mesh) (words longs : List ℕ) wh
     pub refused_not : b ≡ false → 0 ≡ refining_refusal m rounds (lent_by out work words longs)
     refused_not h = last_check {n = 0} false refl h ∙ sym last_decides
 
-    pub decided_ready : b ≡ false → ReadyFor rounds m p.start out work words longs
+    pub decided_ready : b ≡ false → (numbers : WorkingNumbers) → length numbers.words.now ≡ length words → length numbers.longs.now ≡ length longs → ReadyFor rounds m p.start out work numbers
     decided_ready h = lent_ready m rounds out work words longs (plan_passed d) (sym tested ∙ h) p.start d.start
 
     pub decided_answer : b ≡ false → (c : Counts) → c ≡ counts_in p.finished → counts_answer_of (Ok c) ≡ refining_answer m rounds out work words longs
@@ -155,18 +157,6 @@ module _ (m : Mesh) (rounds : ℕ) (out work : Mesh) (words longs : List ℕ) wh
         let s = number_is_suc r in
         ap (λ (k : ℕ). result_tables k out (refined rounds m)) (sym s.1 ∙ e)
 
--- working numbers count by their length
-pub ready_same : {n : ℕ} {m : Mesh} {s : Sizes} {out work : Mesh} {longs : List ℕ} (words words' : List ℕ) → length words' ≡ length words → ReadyFor n m s out work words longs → ReadyFor n m s out work words' longs
-ready_same words words' e r = record {
-  accepted = r.accepted;
-  sized = r.sized;
-  small = r.small;
-  room = r.room;
-  working_room = r.working_room;
-  enough_words = rw e r.enough_words;
-  enough_longs = r.enough_longs;
-}
-
 -- check 11 of what is lent, as the code counts it
-pub short_lent : (out work : Mesh) (words longs : List ℕ) (o w f : Sizes) {b : Bool} → counts_in o ≡ counts_of out → counts_in w ≡ counts_of work → b ≡ short_for_refining (lengths (record { output = o; working = w; words = length words; longs = length longs })) (counts_in f) → b ≡ short_for_refining (lent_by out work words longs) (counts_in f)
-short_lent out work words longs o w f p q e = e ∙ ap (λ (l : Lengths). short_for_refining l (counts_in f)) (lent_is out work words longs o w p q)
+pub short_lent : {l lent : Lengths} (f : Counts) {b : Bool} → b ≡ short_for_refining l f → l ≡ lent → b ≡ short_for_refining lent f
+short_lent f e same = e ∙ ap (λ (l : Lengths). short_for_refining l f) same

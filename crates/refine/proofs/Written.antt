@@ -1,8 +1,8 @@
 -- The third property of what was written, the range of every round, and cleared memory. Assumes nothing.
-use mathlib.Core.Path.{◌≡◌, refl, sym, ap, subst, ◌∙◌}
+use mathlib.Core.Path.{◌≡◌, sym, ap, subst, ◌∙◌}
 use mathlib.Core.Bool.{true}
 use mathlib.Core.List.{List}
-use Prim.Native.Nat.{ℕ, zero, suc, ◌*◌}
+use Prim.Native.Nat.{ℕ, suc, ◌*◌}
 use lib.ListN.{length, take, replicate}
 use lib.IntN.{ℤ, pos}
 use Rattle.rules.specs.declared.Counts.{Counts}
@@ -20,7 +20,7 @@ use Rattle.rules.specs.Answers.{counts_answer_of}
 use Rattle.rules.specs.declared.Refusal.{Refusal}
 use Rattle.std.specs.Prelude.{Result, Ok, Err, IfOk, OnOk}
 use Rattle.accuracy.proofs.Accepted.{accepted_property_3, range_kept_lem}
-use Rattle.plan.proofs.Refusals.{both_pass, rounds_then, rounds_pass}
+use Rattle.plan.proofs.Refusals.{answer_number, both_pass, rounds_then, rounds_pass}
 use Rattle.tables.proofs.Five.{same_mesh}
 use Rattle.rounds.proofs.Turns.{filled, begins, SameLengths}
 
@@ -33,14 +33,9 @@ written_front m rounds out a =
 
 -- where the call is not refused
 module _ (m : Mesh) (rounds : ℕ) (out work : Mesh) (words longs : List ℕ) (c : Counts) (e : counts_answer_of (Ok c) ≡ refining_answer m rounds out work words longs) where
-  -- the refusal in an answer
-  refusal_in : (n : ℕ) (d : Counts) → (counts_answer n d).refusal ≡ n
-  refusal_in zero d = refl
-  refusal_in (suc n) d = refl
-
   answered : refining_refusal m rounds (lent_by out work words longs) ≡ 0
   unfolding refining_answer
-  answered = sym (refusal_in _ _) ∙ sym (ap (λ (x : CountsAnswer). x.refusal) e)
+  answered = sym (answer_number _ _) ∙ sym (ap (λ (x : CountsAnswer). x.refusal) e)
 
   accepted : Accepted m
   unfolding refining_refusal

@@ -1,6 +1,5 @@
 -- A mesh copied to the output tables is ready for the rounds, and what they leave of the copy is the mesh after the rounds. Assumes nothing.
 use mathlib.Core.Path.{◌≡◌, sym, ap, subst, ◌∙◌}
-use mathlib.Core.List.{List}
 use Prim.Native.Nat.{ℕ}
 use native.Mathlib.Omega.{arith}
 use Rattle.rules.specs.declared.Sizes.{Sizes}
@@ -12,11 +11,12 @@ use Rattle.soundness.specs.Growth.{AtMost}
 use Rattle.soundness.proofs.Rounds.{refined_sizes}
 use Rattle.soundness.proofs.SplitSizes.{after_grows}
 use Rattle.tables.specs.Lent.{Fits}
+use Rattle.rounds.specs.declared.working.WorkingNumbers.{WorkingNumbers}
 use Rattle.rounds.specs.Front.{sized_front, Room}
 use Rattle.rounds.specs.Ready.{ReadyFor}
 use Rattle.rounds.proofs.Turns.{Filled, filled, front_begins, result_twice, room_less, room_stored, now_filled}
 
-module _ {n : ℕ} {m : Mesh} {s : Sizes} {out work : Mesh} {words longs : List ℕ} (ready : ReadyFor n m s out work words longs) where
+module _ {n : ℕ} {m : Mesh} {s : Sizes} {out work : Mesh} {numbers : WorkingNumbers} (ready : ReadyFor n m s out work numbers) where
   start_filled : Filled s m
   start_filled = subst (λ (r : Sizes). Filled r m) (sym ready.sized) (filled m ready.accepted.entire)
 
@@ -39,9 +39,9 @@ module _ {n : ℕ} {m : Mesh} {s : Sizes} {out work : Mesh} {words longs : List 
     pub copied_front : sized_front s o ≡ m
     copied_front = ap (sized_front s) e ∙ front_begins s out m start_filled
 
-    pub ready_copied : ReadyFor n (sized_front s o) s o work words longs
+    pub ready_copied : ReadyFor n (sized_front s o) s o work numbers
     ready_copied =
-        subst (λ (x : Mesh). ReadyFor n x s o work words longs) (sym copied_front)
+        subst (λ (x : Mesh). ReadyFor n x s o work numbers) (sym copied_front)
         (record {
           accepted = ready.accepted;
           sized = ready.sized;

@@ -1,9 +1,11 @@
--- Tables that stay the ones that were lent, and their lengths. Assumes nothing.
+-- Tables and working numbers that stay the ones that were lent, and their lengths. Assumes nothing.
 use Rattle.std.proofs.Common.{List, refl, ◌∙◌}
 use Rattle.std.specs.Borrow.{MutBor}
 use Rattle.tables.specs.declared.LentTables.{LentTables}
 use Rattle.tables.specs.Lent.{SameSlice, SameSlices, mesh_at}
-use Rattle.rounds.proofs.Turns.{SameLengths}
+use Rattle.rounds.specs.declared.working.WorkingNumbers.{WorkingNumbers}
+use Rattle.rounds.specs.Working.{SameNumbers}
+use Rattle.rounds.proofs.Turns.{SameLengths, SameCounts}
 
 one : {A : Type 0} (s : MutBor (List A)) → SameSlice s s
 one s = record { name = refl; long = refl }
@@ -31,3 +33,12 @@ lengths_kept p = record {
   segments = p.segments.long;
   points = p.points.long;
 }
+
+pub same_numbers : (n : WorkingNumbers) → SameNumbers n n
+same_numbers n = record { words = one n.words; longs = one n.longs }
+
+pub numbers_still_lent : {a b c : WorkingNumbers} → SameNumbers a b → SameNumbers b c → SameNumbers a c
+numbers_still_lent p q = record { words = both p.words q.words; longs = both p.longs q.longs }
+
+pub counts_kept : {a b : WorkingNumbers} → SameNumbers a b → SameCounts a b
+counts_kept p = record { words = p.words.long; longs = p.longs.long }

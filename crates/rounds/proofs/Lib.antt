@@ -8,5 +8,5 @@ pub mod OneRound
 pub mod Copied
 -- Narrowed: sizes that fit 32 bits, and fronts by counts.
 pub mod Narrowed
--- Lent: tables that stay the ones that were lent.
+-- Lent: tables and numbers that stay the ones that were lent.
 pub mod Lent

@@ -24,6 +24,7 @@ use Rattle.soundness.proofs.SplitSizes.{after_suc, after_grows, never_fall}
 use Rattle.soundness.proofs.Rounds.{counts_now, in_range_lem, refined_sizes, too_large_before}
 use Rattle.accuracy.proofs.Accepted.{accepted_again}
 use Rattle.counting.specs.Bounded.{Bounded}
+use Rattle.rounds.specs.declared.working.WorkingNumbers.{WorkingNumbers}
 use Rattle.rounds.specs.Front.{sized_front, Room}
 use Rattle.rounds.specs.Ready.{Ready, ReadyFor}
 use Rattle.tables.proofs.Five.{same_mesh, length_part, length_overwritten}
@@ -152,6 +153,11 @@ room_same s l h = record {
   points = omega (arith, l.points, h.points);
 }
 
+-- there are as many of each of the working numbers
+pub record SameCounts (a b : WorkingNumbers) : Type 0 where
+  pub words : length b.words.now ≡ length a.words.now
+  pub longs : length b.longs.now ≡ length a.longs.now
+
 -- ---- the sizes of a mesh that a round leaves in the ranges fit their sums
 
 pub small_bounded : (s : Sizes) → out_of_range (counts_in (next_sizes s)) ≡ false → Bounded (2 ^ 59) s
@@ -170,7 +176,7 @@ small_bounded s h =
 
 -- ---- after k of the rounds
 
-module _ {n : ℕ} {m : Mesh} {s : Sizes} {out work : Mesh} {words longs : List ℕ} (ready : ReadyFor n m s out work words longs) (k : ℕ) where
+module _ {n : ℕ} {m : Mesh} {s : Sizes} {out work : Mesh} {numbers : WorkingNumbers} (ready : ReadyFor n m s out work numbers) (k : ℕ) where
   -- the sizes after k rounds
   abbrev pub now : Sizes
   now = sizes (topology (refined k m))
@@ -216,8 +222,8 @@ module _ {n : ℕ} {m : Mesh} {s : Sizes} {out work : Mesh} {words longs : List 
       subst (λ (x : Mesh). Room (sizes_after n s) x) (sym e)
       (room_stored now (sizes_after n s) out (refined k m) (now_filled h) (room_now h out ready.room) ready.room)
 
-  pub turn_ready : (h : k < n) (o : Mesh) → o ≡ result_tables 0 out (refined k m) → (ws ls : List ℕ) → length ws ≡ length words → length ls ≡ length longs → Room now o × Ready (sized_front now o) now o ws ls
-  turn_ready h o e ws ls p q =
+  pub turn_ready : (h : k < n) (o : Mesh) → o ≡ result_tables 0 out (refined k m) → {numbers' : WorkingNumbers} → SameCounts numbers numbers' → Room now o × Ready (sized_front now o) now o numbers'
+  turn_ready h o e same =
       let l : k ≤ n = omega arith in
       let f = front_now l o e in
       let g = next_grown h in
@@ -228,8 +234,8 @@ module _ {n : ℕ} {m : Mesh} {s : Sizes} {out work : Mesh} {words longs : List 
           sized = sized f;
           small = next_small h;
           room = room_less (next_sizes now) (sizes_after n s) o g r;
-          enough_words = omega (arith, g.vertices, ready.enough_words);
-          enough_longs = omega (arith, g.vertices, ready.enough_longs);
+          enough_words = omega (arith, g.vertices, ready.enough_words, same.words);
+          enough_longs = omega (arith, g.vertices, ready.enough_longs, same.longs);
         },
       )
     where
@@ -241,7 +247,7 @@ unfolding sizes_after
 one_more r = after_grows 1 r
 
 -- one round more
-module _ {n : ℕ} {m : Mesh} {s : Sizes} {out work : Mesh} {words longs : List ℕ} (ready : ReadyFor n m s out work words longs) (k : ℕ) (h : k < n) where
+module _ {n : ℕ} {m : Mesh} {s : Sizes} {out work : Mesh} {numbers : WorkingNumbers} (ready : ReadyFor n m s out work numbers) (k : ℕ) (h : k < n) where
   pub now_next : sizes (topology (refined (suc k) m)) ≡ next_sizes (now ready k)
   now_next = refined_sizes (suc k) m ready.accepted.sound ∙ after_suc k (sizes (topology m)) ∙ ap next_sizes (sym (refined_sizes k m ready.accepted.sound))
 
@@ -258,14 +264,13 @@ module _ {n : ℕ} {m : Mesh} {s : Sizes} {out work : Mesh} {words longs : List 
 -- ---- the loop's invariant
 
 -- after k of n rounds of the mesh m, which stood at the front of the tables `out₀`
-pub record Turning (n k : ℕ) (m : Mesh) (s : Sizes) (out₀ out work₀ work : Mesh) (words₀ words longs₀ longs : List ℕ) : Type 0 where
+pub record Turning (n k : ℕ) (m : Mesh) (s : Sizes) (out₀ out work₀ work : Mesh) (numbers₀ numbers : WorkingNumbers) : Type 0 where
   pub up_to : k ≤ n
   pub sized : s ≡ sizes (topology (refined k m))
   pub holds : out ≡ result_tables 0 out₀ (refined k m)
   pub same_out : SameLengths out₀ out
   pub same_work : SameLengths work₀ work
-  pub same_words : length words ≡ length words₀
-  pub same_longs : length longs ≡ length longs₀
+  pub same_numbers : SameCounts numbers₀ numbers
 
 own_front : (s : Sizes) (tables : Mesh) → Room s tables → result_tables 0 tables (sized_front s tables) ≡ tables
 unfolding front_of result_tables
@@ -276,8 +281,8 @@ own_front s tables r =
     (own (2 * s.segments) tables.segments r.segments)
     (own s.points tables.points r.points)
 
-module _ {n : ℕ} {s : Sizes} {out work : Mesh} {words longs : List ℕ} (ready : ReadyFor n (sized_front s out) s out work words longs) where
-  pub turning_starts : Turning n 0 (sized_front s out) s out out work work words words longs longs
+module _ {n : ℕ} {s : Sizes} {out work : Mesh} {numbers : WorkingNumbers} (ready : ReadyFor n (sized_front s out) s out work numbers) where
+  pub turning_starts : Turning n 0 (sized_front s out) s out out work work numbers numbers
   unfolding refined
   turning_starts = record {
     up_to = omega arith;
@@ -285,15 +290,14 @@ module _ {n : ℕ} {s : Sizes} {out work : Mesh} {words longs : List ℕ} (ready
     holds = sym (own_front s out (room_less s (sizes_after n s) out (after_grows n s) ready.room));
     same_out = same_lengths out;
     same_work = same_lengths work;
-    same_words = refl;
-    same_longs = refl;
+    same_numbers = record { words = refl; longs = refl };
   }
 
-module _ {n k : ℕ} {m : Mesh} {s₀ s : Sizes} {out₀ out work₀ work : Mesh} {words₀ words longs₀ longs : List ℕ} (ready : ReadyFor n m s₀ out₀ work₀ words₀ longs₀) (t : Turning n k m s out₀ out work₀ work words₀ words longs₀ longs) (h : k < n) where
-  pub turning_ready : Room s work × (Room s out × Ready (sized_front s out) s out words longs)
+module _ {n k : ℕ} {m : Mesh} {s₀ s : Sizes} {out₀ out work₀ work : Mesh} {numbers₀ numbers : WorkingNumbers} (ready : ReadyFor n m s₀ out₀ work₀ numbers₀) (t : Turning n k m s out₀ out work₀ work numbers₀ numbers) (h : k < n) where
+  pub turning_ready : Room s work × (Room s out × Ready (sized_front s out) s out numbers)
   turning_ready =
-      subst (λ (r : Sizes). Room r work × (Room r out × Ready (sized_front r out) r out words longs)) (sym t.sized)
-      (room_now ready k t.up_to work (room_same (sizes_after n s₀) t.same_work ready.working_room), turn_ready ready k h out t.holds words longs t.same_words t.same_longs)
+      subst (λ (r : Sizes). Room r work × (Room r out × Ready (sized_front r out) r out numbers)) (sym t.sized)
+      (room_now ready k t.up_to work (room_same (sizes_after n s₀) t.same_work ready.working_room), turn_ready ready k h out t.holds t.same_numbers)
 
   pub turning_bounded : Bounded (2 ^ 59) s
   turning_bounded = small_bounded s (ap (λ (r : Sizes). out_of_range (counts_in (next_sizes r))) t.sized ∙ next_small ready k h)
@@ -306,13 +310,12 @@ module _ {n k : ℕ} {m : Mesh} {s₀ s : Sizes} {out₀ out work₀ work : Mesh
     next_holds : out' ≡ result_tables 0 out₀ (refined (suc k) m)
     next_holds = turned ready k h out out' t.holds (f ∙ ap (λ (r : Sizes). result_tables 0 out (round (sized_front r out))) t.sized)
 
-    pub turning_next : {work' : Mesh} (words' longs' : List ℕ) → SameLengths out out' → SameLengths work work' → length words' ≡ length words → length longs' ≡ length longs → Turning n (suc k) m s' out₀ out' work₀ work' words₀ words' longs₀ longs'
-    turning_next words' longs' o w p q = record {
+    pub turning_next : {work' : Mesh} {numbers' : WorkingNumbers} → SameLengths out out' → SameLengths work work' → SameCounts numbers numbers' → Turning n (suc k) m s' out₀ out' work₀ work' numbers₀ numbers'
+    turning_next o w same = record {
       up_to = h;
       sized = next_sized;
       holds = next_holds;
       same_out = same_then t.same_out o;
       same_work = same_then t.same_work w;
-      same_words = p ∙ t.same_words;
-      same_longs = q ∙ t.same_longs;
+      same_numbers = record { words = same.words ∙ t.same_numbers.words; longs = same.longs ∙ t.same_numbers.longs };
     }

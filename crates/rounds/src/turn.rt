@@ -5,12 +5,15 @@ ghost use Rattle.rules.specs.Averaging.{round, refined};
 ghost use Rattle.rules.specs.EntryPoints.{result_tables};
 ghost use Rattle.tables.specs.Lent.{mesh_in, mesh_at, SameSlices};
 ghost use Rattle.rounds.specs.Front.{sized_front, Room};
+ghost use Rattle.rounds.specs.Working.{SameNumbers};
 ghost use Rattle.rounds.specs.Ready.{Ready, ReadyFor};
 
+use crate::working::WorkingNumbers;
 use rules::Sizes;
 use tables::{LentTables, MeshTables};
 
-// One round, from a mesh to the fronts of tables. They are lent one by one, since four of them are read while the coordinates are written.
+// One round, from a mesh to the fronts of tables. They are lent one by one, since four of them are read while the coordinates are written:
+// as fields behind one `&mut`, even taken apart, the borrow checker does not let one be written while the others are read.
 fn round(
     sizes: Sizes,
     mesh: MeshTables,
@@ -19,24 +22,18 @@ fn round(
     quads: &mut [u32],
     segments: &mut [u32],
     points: &mut [u32],
-    words: &mut [u32],
-    longs: &mut [u64],
+    numbers: &mut WorkingNumbers,
 )
     requires { let out = as_mesh vertices.old hexes.old quads.old segments.old points.old in
-        Ready (mesh_in mesh) sizes out words.old longs.old }
-    ensures { let old = as_mesh vertices.old hexes.old quads.old segments.old points.old in
+        Ready (mesh_in mesh) sizes out numbers.old }
+    ensures same_numbers { SameNumbers numbers.old numbers.new }
+    ensures refined { let old = as_mesh vertices.old hexes.old quads.old segments.old points.old in
         as_mesh vertices.new hexes.new quads.new segments.new points.new ≡ result_tables 0 old (round (mesh_in mesh.entry)) }
 {
-    splitting::split(
-        mesh,
-        sizes.edges as usize,
-        sizes.faces as usize,
-        words,
-        hexes,
-        quads,
-        segments,
-        points,
-    );
+    let WorkingNumbers { words, longs } = numbers;
+    let edges = sizes.edges as usize;
+    let faces = sizes.faces as usize;
+    splitting::split(mesh, edges, faces, words, hexes, quads, segments, points);
     let fine = MeshTables {
         vertices: mesh.vertices,
         hexes: &hexes[..64 * sizes.hexes as usize],
@@ -53,11 +50,11 @@ fn round_tables(
     sizes: Sizes,
     mesh: MeshTables,
     output: &mut LentTables,
-    words: &mut [u32],
-    longs: &mut [u64],
+    numbers: &mut WorkingNumbers,
 )
-    requires { Ready (mesh_in mesh) sizes (mesh_at output.old) words.old longs.old }
+    requires { Ready (mesh_in mesh) sizes (mesh_at output.old) numbers.old }
     ensures same_output { SameSlices output.old output.new }
+    ensures same_numbers { SameNumbers numbers.old numbers.new }
     ensures refined { mesh_at output.new ≡ result_tables 0 (mesh_at output.old) (round (mesh_in mesh.entry)) }
 {
     let LentTables {
@@ -68,7 +65,7 @@ fn round_tables(
         points,
     } = output;
     round(
-        sizes, mesh, vertices, hexes, quads, segments, points, words, longs,
+        sizes, mesh, vertices, hexes, quads, segments, points, numbers,
     );
 }
 
@@ -77,18 +74,18 @@ fn turn(
     sizes: Sizes,
     output: &mut LentTables,
     working: &mut LentTables,
-    words: &mut [u32],
-    longs: &mut [u64],
+    numbers: &mut WorkingNumbers,
 )
     requires room { Room sizes (mesh_at working.old) }
-    requires ready { Room sizes (mesh_at output.old) × Ready (sized_front sizes (mesh_at output.old)) sizes (mesh_at output.old) words.old longs.old }
+    requires ready { Room sizes (mesh_at output.old) × Ready (sized_front sizes (mesh_at output.old)) sizes (mesh_at output.old) numbers.old }
     ensures same_output { SameSlices output.old output.new }
     ensures same_working { SameSlices working.old working.new }
+    ensures same_numbers { SameNumbers numbers.old numbers.new }
     ensures refined { mesh_at output.new ≡ result_tables 0 (mesh_at output.old) (round (sized_front sizes (mesh_at output.old))) }
 {
     let counts = counting::counts_in(sizes);
     working.copy_from(output.as_mesh().front(counts));
-    round_tables(sizes, working.as_mesh().front(counts), output, words, longs);
+    round_tables(sizes, working.as_mesh().front(counts), output, numbers);
 }
 
 // The rounds, one after the other, of the mesh at the front of the output tables.
@@ -97,17 +94,17 @@ pub fn turns(
     start: Sizes,
     output: &mut LentTables,
     working: &mut LentTables,
-    words: &mut [u32],
-    longs: &mut [u64],
+    numbers: &mut WorkingNumbers,
 )
-    requires { ReadyFor rounds (sized_front start (mesh_at output.old)) start (mesh_at output.old) (mesh_at working.old) words.old longs.old }
+    requires { ReadyFor rounds (sized_front start (mesh_at output.old)) start (mesh_at output.old) (mesh_at working.old) numbers.old }
     ensures same_output { SameSlices output.old output.new }
     ensures same_working { SameSlices working.old working.new }
+    ensures same_numbers { SameNumbers numbers.old numbers.new }
     ensures refined { mesh_at output.new ≡ result_tables 0 (mesh_at output.old) (refined rounds (sized_front start (mesh_at output.old))) }
 {
     let mut sizes = start;
     for _ in 0..rounds {
-        turn(sizes, output, working, words, longs);
+        turn(sizes, output, working, numbers);
         sizes = counting::next_sizes(sizes);
     }
 }

@@ -7,11 +7,11 @@ use Rattle.fixed.proofs.refine_mesh.Goals as goal
 pub returns-clause-answer : goal.returns-clause-answer
 unfolding counts_of
 returns-clause-answer c =
-    let f : FixedMemory _ _ _ _ = record { output = c.requires; working = refl; words = refl; longs = refl } in
+    let f : FixedMemory _ _ _ _ = record { output = c.requires; working = c.lend-working.ensures.sizes; words = refl; longs = refl } in
     refined_answer f _ _ c.refine.ensures.answer
 
 pub returns-clause-output : goal.returns-clause-output
 unfolding counts_of
 returns-clause-output c =
-    let f : FixedMemory _ _ _ _ = record { output = c.requires; working = refl; words = refl; longs = refl } in
+    let f : FixedMemory _ _ _ _ = record { output = c.requires; working = c.lend-working.ensures.sizes; words = refl; longs = refl } in
     refined_output f _ _ c.refine.ensures.output

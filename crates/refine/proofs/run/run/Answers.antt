@@ -1,11 +1,9 @@
 -- The refusals, or the rounds.
-use Rattle.std.proofs.Common.{ap, ◌∙◌}
+use Rattle.std.proofs.Common.{refl}
 use Rattle.std.proofs.lemmas.Result.{err_from_is_err_and}
 use Rattle.rules.specs.declared.Refusal.TheVariants.{ShortBuffer}
-use Rattle.rules.specs.Counts.{counts_of}
-use Rattle.tables.specs.Lent.{mesh_at}
 use Rattle.plan.proofs.Plans.{plan_narrow}
-use Rattle.refine.proofs.Decided.{short_lent, refused_by_plan, refused_as_short, decided_refused, refused_output, decided_ready, decided_answer, decided_written, ready_same}
+use Rattle.refine.proofs.Decided.{short_lent, refused_by_plan, refused_as_short, decided_refused, refused_output, decided_ready, decided_answer, decided_written}
 use Rattle.refine.proofs.run.run.Goals as goal
 
 pub returns-in_err-growth-clause-answer : goal.returns-in_err-growth-clause-answer
@@ -18,33 +16,23 @@ returns-in_err-growth-clause-output c = refused_output _ _ _ _ _ _ _ (refused_by
 
 pub returns-then-is_short-clause-answer : goal.returns-then-is_short-clause-answer
 returns-then-is_short-clause-answer c =
-    let a = c.args in
-    let t = short_lent (mesh_at a.output.now) (mesh_at a.working.now) a.words.now a.longs.now _ _ c.in_ok-growth.growth.finished (c.places.ensures ∙ ap counts_of c.as_mesh.ensures) (c.places-2.ensures ∙ ap counts_of c.as_mesh-2.ensures) c.is_short.ensures in
-    decided_refused _ _ _ _ _ _ ShortBuffer (refused_as_short _ _ _ _ _ _ c.in_ok-growth.ensures _ t c.if-is_short.true)
+    decided_refused _ _ _ _ _ _ ShortBuffer (refused_as_short _ _ _ _ _ _ c.in_ok-growth.ensures _ (short_lent _ c.is_short.ensures c.by-lent.ensures) c.if-is_short.true)
 
 pub returns-then-is_short-clause-output : goal.returns-then-is_short-clause-output
 returns-then-is_short-clause-output c =
-    let a = c.args in
-    let t = short_lent (mesh_at a.output.now) (mesh_at a.working.now) a.words.now a.longs.now _ _ c.in_ok-growth.growth.finished (c.places.ensures ∙ ap counts_of c.as_mesh.ensures) (c.places-2.ensures ∙ ap counts_of c.as_mesh-2.ensures) c.is_short.ensures in
-    refused_output _ _ _ _ _ _ ShortBuffer (refused_as_short _ _ _ _ _ _ c.in_ok-growth.ensures _ t c.if-is_short.true)
+    refused_output _ _ _ _ _ _ ShortBuffer (refused_as_short _ _ _ _ _ _ c.in_ok-growth.ensures _ (short_lent _ c.is_short.ensures c.by-lent.ensures) c.if-is_short.true)
 
 pub make_rounds-requires : goal.make_rounds-requires
 make_rounds-requires c =
-    let a = c.args in
-    let t = short_lent (mesh_at a.output.now) (mesh_at a.working.now) a.words.now a.longs.now _ _ c.in_ok-growth.growth.finished (c.places.ensures ∙ ap counts_of c.as_mesh.ensures) (c.places-2.ensures ∙ ap counts_of c.as_mesh-2.ensures) c.is_short.ensures in
-    ready_same a.words.now _ c.plan.auto.words (decided_ready _ _ _ _ _ _ c.in_ok-growth.ensures _ t c.if-is_short.false)
+    decided_ready _ _ _ _ _ _ c.in_ok-growth.ensures _ (short_lent _ c.is_short.ensures c.by-lent.ensures) c.if-is_short.false _ c.plan.auto.words refl
 
 pub counts_in-requires : goal.counts_in-requires
 counts_in-requires c = plan_narrow c.in_ok-growth.ensures
 
 pub returns-clause-answer : goal.returns-clause-answer
 returns-clause-answer c =
-    let a = c.args in
-    let t = short_lent (mesh_at a.output.now) (mesh_at a.working.now) a.words.now a.longs.now _ _ c.in_ok-growth.growth.finished (c.places.ensures ∙ ap counts_of c.as_mesh.ensures) (c.places-2.ensures ∙ ap counts_of c.as_mesh-2.ensures) c.is_short.ensures in
-    decided_answer _ _ _ _ _ _ c.in_ok-growth.ensures _ t c.if-is_short.false _ c.counts_in.ensures
+    decided_answer _ _ _ _ _ _ c.in_ok-growth.ensures _ (short_lent _ c.is_short.ensures c.by-lent.ensures) c.if-is_short.false _ c.counts_in.ensures
 
 pub returns-clause-output : goal.returns-clause-output
 returns-clause-output c =
-    let a = c.args in
-    let t = short_lent (mesh_at a.output.now) (mesh_at a.working.now) a.words.now a.longs.now _ _ c.in_ok-growth.growth.finished (c.places.ensures ∙ ap counts_of c.as_mesh.ensures) (c.places-2.ensures ∙ ap counts_of c.as_mesh-2.ensures) c.is_short.ensures in
-    decided_written _ _ _ _ _ _ c.in_ok-growth.ensures _ t c.if-is_short.false c.make_rounds.ensures.refined
+    decided_written _ _ _ _ _ _ c.in_ok-growth.ensures _ (short_lent _ c.is_short.ensures c.by-lent.ensures) c.if-is_short.false c.make_rounds.ensures.refined
