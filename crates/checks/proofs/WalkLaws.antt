@@ -7,15 +7,15 @@ use Prim.Native.Nat.{ℕ, zero, suc, ◌+◌, ◌-◌, ◌*◌, ◌/◌, ◌%◌
 use native.Mathlib.Nat.{mul-le-mul_right, mod-lt, div-lt_iff_lt-mul, div-add-mod', mul-le-mul_left, mul-div-le}
 use native.Mathlib.Omega.{arith}
 use lib.Dec.{lit<}
-use lib.ListN.{length, get_or, length-append, length-map, get_or-append}
+use lib.ListN.{length, get_or, take, drop, length-append, length-map, get_or-append}
 use lib.Seq.{get_or-append-add}
 use Rattle.rules.specs.Lists.{concat_map, cut, up_from}
 use Rattle.rules.specs.Mesh.{Mesh, Kind, hex, quad, segment, point, corners, mesh, topology, singles, whole, by_dimension, places, place_of}
 use Rattle.rules.specs.Split.{corners_at, met}
 use Rattle.lists.specs.Membership.{In}
-use Rattle.lists.proofs.Membership.{in_append, in_map, in_concat_map, get_or_map}
+use Rattle.lists.proofs.Membership.{in_append, in_map, in_concat_map, get_or_in, get_or_map}
 use Rattle.lists.proofs.Once.{length_concat_map}
-use Rattle.lists.proofs.Tables.{length_cut, cut_at}
+use Rattle.lists.proofs.Tables.{length_cut, length_entry}
 use Rattle.lists.proofs.Decide.{computed, dec_each, dec_number}
 use Rattle.numbering.specs.declared.parts.Parts.{Parts}
 use Rattle.numbering.specs.declared.parts.Parts.TheVariants.{HexEdges, HexFaces, Hexes, QuadEdges, Quads, Segments, SegmentFaces, Points}
@@ -23,6 +23,7 @@ use Rattle.numbering.specs.Parts.{places_of, part_corners, cell_corners, table_k
 use Rattle.numbering.proofs.Places.{part_size, place_below, length_table_keys}
 use Rattle.checks.specs.declared.parts.Part.{Part}
 use Rattle.checks.specs.declared.parts.Part.TheVariants.{Edge, Face}
+use Rattle.checks.proofs.Slices.{entry_part}
 use Rattle.checks.specs.Walk.{parts_of, parts_in, dimension, size_of, Named}
 
 -- ---- lists that are joined from lists of one length
@@ -104,34 +105,35 @@ module _ (of : Parts) (table : List ℕ) where
     unfolding corners_at
     length_part_in = ap length part_is ∙ length-map _ _ ∙ part_size of (i % count) part_below
 
-    -- where its corner j stands
-    module _ (j : ℕ) (l : j < part_corners of) where
-      abbrev stands : ℕ
-      stands = cell_corners of * (i / count) + place_of (places_of of) (i % count) j
+-- what the code reads: corner j of part i, at its place in the cell
+pub record At (of : Parts) (table : List ℕ) (i j : ℕ) (cell : List ℕ) (at : ℕ) : Type 0 where
+  pub within : at < length cell
+  pub is : get_or cell at 0 ≡ get_or (get_or (parts_in of table) i []) j 0
 
-      corner_below : stands < length table
-      corner_below = omega (arith, place_below of (i % count) part_below j l, cell_within)
+module _ (of : Parts) (table : List ℕ) (i j : ℕ) (h : i < length (parts_in of table)) (l : j < part_corners of) where
+  abbrev cell_of : List ℕ
+  cell_of = get_or (cut (cell_corners of) table) (i / count of table) []
 
-      corner_is : get_or table stands 0 ≡ get_or (get_or (parts_in of table) i []) j 0
-      unfolding corners_at
-      corner_is =
-          let cell = get_or (cut (cell_corners of) table) (i / count) [] in
-          sym
-          (ap (λ (p : List ℕ). get_or p j 0) part_is
-          ∙ get_or_map (λ (q : ℕ). get_or cell q 0) (get_or (places_of of) (i % count) []) j 0 0 (omega (arith, part_size of (i % count) part_below))
-          ∙ cut_at (cell_corners of) (i / count) (place_of (places_of of) (i % count) j) table [] 0 cell_below (place_below of (i % count) part_below j l))
+  located_in : At of table i j cell_of (place_of (places_of of) (i % count of table) j)
+  unfolding corners_at
+  located_in =
+      let part = i % count of table in
+      let k = cell_corners of in
+      let listed : i / count of table < length (cut k table) = rw (length_cut k table) (cell_below of table i h) in
+      record {
+        within = rw (length_entry k table cell_of (get_or_in (cut k table) (i / count of table) [] listed)) (place_below of part (part_below of table i h) j l);
+        is = sym (ap (λ (p : List ℕ). get_or p j 0) (part_is of table i h)
+            ∙ get_or_map (λ (q : ℕ). get_or cell_of q 0) (get_or (places_of of) part []) j 0 0 (omega (arith, part_size of part (part_below of table i h))));
+      }
 
--- what the code reads: its corner j
-pub record At (of : Parts) (table : List ℕ) (i j at : ℕ) : Type 0 where
-  pub within : at < length table
-  pub is : get_or table at 0 ≡ get_or (get_or (parts_in of table) i []) j 0
-
-pub located : (of : Parts) (table : List ℕ) (i j : ℕ) → i < length (parts_in of table) → {k n size p : ℕ} → k ≡ part_corners of → j < k
-    → n ≡ length (places_of of) → size ≡ cell_corners of → p ≡ place_of (places_of of) (i % n) j → At of table i j (size * (i / n) + p)
-located of table i j h {k} {n} {size} {p} c b e s f =
-    let l : j < part_corners of = omega (arith, c) in
-    let g : p ≡ place_of (places_of of) (i % length (places_of of)) j = f ∙ ap (λ (m : ℕ). place_of (places_of of) (i % m) j) e in
-    rw (g, e, s) (record { within = corner_below of table i h j l; is = corner_is of table i h j l })
+pub located : (of : Parts) (table : List ℕ) (i j : ℕ) → i < length (parts_in of table) → {c n k p : ℕ} {cell : List ℕ} → c ≡ part_corners of → j < c
+    → n ≡ length (places_of of) → k ≡ cell_corners of → cell ≡ take (k * (i / n) + k - k * (i / n)) (drop (k * (i / n)) table) → p ≡ place_of (places_of of) (i % n) j
+    → At of table i j cell p
+located of table i j h {c} {n} {k} {p} {cell} b l e s f q =
+    let r : j < part_corners of = omega (arith, b) in
+    let listed : i / count of table < length (cut (cell_corners of) table) = rw (length_cut (cell_corners of) table) (cell_below of table i h) in
+    let g : cell ≡ cell_of of table i j h r = rw (e, s) at f ∙ entry_part (cell_corners of) (i / count of table) table listed in
+    rw (g, rw e at q) (located_in of table i j h r)
 
 -- ---- the walk
 

@@ -78,18 +78,20 @@ impl Part {
 }
 
 // The corners of number i of these parts of the cells of a table.
-#[tactic(auto, using(crate::proofs::WalkLaws::some, crate::proofs::WalkLaws::part_below, crate::proofs::WalkLaws::cell_within, crate::proofs::WalkLaws::located))]
+#[tactic(auto, using(crate::proofs::WalkLaws::some, crate::proofs::WalkLaws::part_below, crate::proofs::WalkLaws::cell_within))]
 fn read_in<const C: usize>(of: Parts, cells: &[u32], i: usize) -> [u32; C]
     requires size { C ≡ part_corners of }
     requires i_in_bounds { i < length (parts_in of cells.now) }
     ensures { result ≡ get_or (parts_in of cells.now) i [] }
 {
     let n = of.count();
-    let cell = of.cell_corners() * (i / n);
+    let k = of.cell_corners();
+    let at = k * (i / n);
+    let cell = &cells[at..at + k];
     let mut corners = [0u32; C];
     // No `from_fn`: under a const parameter its closure would need clauses of its own.
     for (j, corner) in corners.iter_mut().enumerate() {
-        *corner = cells[cell + of.place(i % n, j)];
+        *corner = cell[of.place(i % n, j)];
     }
     corners
 }

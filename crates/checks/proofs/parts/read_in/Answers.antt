@@ -1,28 +1,24 @@
-use Rattle.std.proofs.Common.{[], arith, get_or}
+use Rattle.std.proofs.Common.{[], arith, get_or, refl}
 use Rattle.std.proofs.lemmas.Grind.{common_steps}
+use lib.ListN.{length-take, length-drop}
 use lib.Seq.{ext_get_or}
 use Rattle.checks.specs.Walk.{parts_in}
 use Rattle.checks.proofs.WalkLaws.{length_part_in, located}
 use Rattle.checks.proofs.parts.read_in.Goals as goal
 
-pub overflow_add-corner : goal.overflow_add-corner
-overflow_add-corner g c =
-    let a = located c.args.of c.args.cells.now c.args.i c.loop-j.j c.requires.i_in_bounds c.requires.size c.loop-j-test.true c.count-n.ensures c.cell_corners.ensures c.place.ensures in
-    omega (arith, a.within)
+pub offset_bounds-cell-place : goal.offset_bounds-cell-place
+offset_bounds-cell-place g c =
+    let a = located c.args.of c.args.cells.now c.args.i c.loop-j.j c.requires.i_in_bounds c.requires.size c.loop-j-test.true c.count-n.ensures c.cell_corners-k.ensures refl c.place.ensures in
+    omega (arith, simp (length-take, length-drop) at a.within)
 
-pub offset_bounds-cells-cell : goal.offset_bounds-cells-cell
-offset_bounds-cells-cell g c =
-    let a = located c.args.of c.args.cells.now c.args.i c.loop-j.j c.requires.i_in_bounds c.requires.size c.loop-j-test.true c.count-n.ensures c.cell_corners.ensures c.place.ensures in
-    omega (arith, a.within)
-
-pub bounds-cells-cell : goal.bounds-cells-cell
-bounds-cells-cell g c =
-    let a = located c.args.of c.args.cells.now c.args.i c.loop-j.j c.requires.i_in_bounds c.requires.size c.loop-j-test.true c.count-n.ensures c.cell_corners.ensures c.place.ensures in
+pub bounds-cell-place : goal.bounds-cell-place
+bounds-cell-place g c =
+    let a = located c.args.of c.args.cells.now c.args.i c.loop-j.j c.requires.i_in_bounds c.requires.size c.loop-j-test.true c.count-n.ensures c.cell_corners-k.ensures refl c.place.ensures in
     a.within
 
 pub loop-j-preserved : goal.loop-j-preserved
 loop-j-preserved g c =
-    let a = located c.args.of c.args.cells.now c.args.i c.loop-j.j c.requires.i_in_bounds c.requires.size c.loop-j-test.true c.count-n.ensures c.cell_corners.ensures c.place.ensures in
+    let a = located c.args.of c.args.cells.now c.args.i c.loop-j.j c.requires.i_in_bounds c.requires.size c.loop-j-test.true c.count-n.ensures c.cell_corners-k.ensures refl c.place.ensures in
     let l = c.loop-j.invariant.long in
     record {
       long = grind (arith, common_steps);
