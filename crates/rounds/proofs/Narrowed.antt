@@ -1,5 +1,5 @@
 -- Sizes that fit 32 bits, and the mesh at the front of tables by its counts. Assumes nothing.
-use Rattle.std.proofs.Common.{◌≡◌, ◌*◌, ap, ◌∙◌, arith, refl}
+use Rattle.std.proofs.Common.{◌≡◌, ◌*◌, List, ℕ, ap, ◌∙◌, arith, refl}
 use Rattle.rules.specs.declared.Counts.{Counts}
 use Rattle.rules.specs.declared.Sizes.{Sizes}
 use Rattle.rules.specs.Mesh.{Mesh}
@@ -7,14 +7,13 @@ use Rattle.rules.specs.Counts.{next_sizes, counts_in}
 use Rattle.rules.specs.EntryPoints.{front, front_of, result_tables}
 use Rattle.counting.specs.Bounded.{Narrow}
 use Rattle.tables.specs.Lent.{Room as CountsRoom, Fits}
-use Rattle.rounds.specs.declared.working.WorkingNumbers.{WorkingNumbers}
 use Rattle.rounds.specs.Front.{sized_front, Room}
 use Rattle.rounds.specs.Ready.{Ready}
 use Rattle.rounds.proofs.OneRound.{few_vertices, fine_small, next_range}
 use Rattle.tables.proofs.Five.{part_fits}
 use Rattle.rounds.proofs.Fronts.{front_copied}
 
-pub narrow : {m : Mesh} {s : Sizes} {out : Mesh} {numbers : WorkingNumbers} → Ready m s out numbers → Narrow s
+pub narrow : {m : Mesh} {s : Sizes} {out : Mesh} {words longs : List ℕ} → Ready m s out words longs → Narrow s
 unfolding counts_in next_sizes
 narrow ready =
     let v = few_vertices ready in

@@ -20,7 +20,6 @@ use Rattle.soundness.proofs.SplitSizes.{split_sizes, length_numbered}
 use Rattle.soundness.proofs.Rounds.{counts_now, in_range_lem, split_sized}
 use Rattle.splitting.specs.Ready.{Places, Ready as Splittable}
 use Rattle.averaging.specs.Ready.{table, Ready as Averageable}
-use Rattle.rounds.specs.declared.working.WorkingNumbers.{WorkingNumbers}
 use Rattle.rounds.specs.Ready.{Ready}
 use Rattle.tables.proofs.Five.{same_mesh}
 use Rattle.rounds.proofs.Turns.{begins}
@@ -32,7 +31,7 @@ table_size s quad = s.quads
 table_size s segment = s.segments
 table_size s point = s.points
 
-module _ {m : Mesh} {s : Sizes} {out : Mesh} {numbers : WorkingNumbers} (ready : Ready m s out numbers) where
+module _ {m : Mesh} {s : Sizes} {out : Mesh} {words longs : List ℕ} (ready : Ready m s out words longs) where
   -- the sizes, by the lengths of the tables
   counts : counts_of m ≡ counts_in s
   counts = counts_now m ∙ ap counts_in (sym ready.sized)
@@ -100,7 +99,7 @@ module _ {m : Mesh} {s : Sizes} {out : Mesh} {numbers : WorkingNumbers} (ready :
 
   -- ---- what splitting needs
 
-  pub split_ready : Splittable m s.edges s.faces (length numbers.words.now)
+  pub split_ready : Splittable m s.edges s.faces (length words)
   unfolding next_sizes counts_in
   split_ready =
       let z = table_sizes in
@@ -145,7 +144,7 @@ module _ {m : Mesh} {s : Sizes} {out : Mesh} {numbers : WorkingNumbers} (ready :
     fine_cells segment = ap (take (4 * s.segments)) es ∙ fine_table segment out.segments (4 * s.segments) (omega arith)
     fine_cells point = ap (take s.points) ep ∙ fine_table point out.points s.points (omega arith)
 
-    pub average_ready : (ws : List ℕ) → length ws ≡ length numbers.words.now → Averageable m (mesh xs (take (64 * s.hexes) hs) (take (16 * s.quads) qs) (take (4 * s.segments) ss) (take s.points ps)) (s.vertices + (s.edges + (s.faces + s.hexes))) (length ws) (length numbers.longs.now) (length out.vertices)
+    pub average_ready : (ws : List ℕ) → length ws ≡ length words → Averageable m (mesh xs (take (64 * s.hexes) hs) (take (16 * s.quads) qs) (take (4 * s.segments) ss) (take s.points ps)) (s.vertices + (s.edges + (s.faces + s.hexes))) (length ws) (length longs) (length out.vertices)
     unfolding next_sizes
     average_ready ws e =
         let r = ready.room in

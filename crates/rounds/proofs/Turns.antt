@@ -222,7 +222,7 @@ module _ {n : ℕ} {m : Mesh} {s : Sizes} {out work : Mesh} {numbers : WorkingNu
       subst (λ (x : Mesh). Room (sizes_after n s) x) (sym e)
       (room_stored now (sizes_after n s) out (refined k m) (now_filled h) (room_now h out ready.room) ready.room)
 
-  pub turn_ready : (h : k < n) (o : Mesh) → o ≡ result_tables 0 out (refined k m) → {numbers' : WorkingNumbers} → SameCounts numbers numbers' → Room now o × Ready (sized_front now o) now o numbers'
+  pub turn_ready : (h : k < n) (o : Mesh) → o ≡ result_tables 0 out (refined k m) → {numbers' : WorkingNumbers} → SameCounts numbers numbers' → Room now o × Ready (sized_front now o) now o numbers'.words.now numbers'.longs.now
   turn_ready h o e same =
       let l : k ≤ n = omega arith in
       let f = front_now l o e in
@@ -294,9 +294,9 @@ module _ {n : ℕ} {s : Sizes} {out work : Mesh} {numbers : WorkingNumbers} (rea
   }
 
 module _ {n k : ℕ} {m : Mesh} {s₀ s : Sizes} {out₀ out work₀ work : Mesh} {numbers₀ numbers : WorkingNumbers} (ready : ReadyFor n m s₀ out₀ work₀ numbers₀) (t : Turning n k m s out₀ out work₀ work numbers₀ numbers) (h : k < n) where
-  pub turning_ready : Room s work × (Room s out × Ready (sized_front s out) s out numbers)
+  pub turning_ready : Room s work × (Room s out × Ready (sized_front s out) s out numbers.words.now numbers.longs.now)
   turning_ready =
-      subst (λ (r : Sizes). Room r work × (Room r out × Ready (sized_front r out) r out numbers)) (sym t.sized)
+      subst (λ (r : Sizes). Room r work × (Room r out × Ready (sized_front r out) r out numbers.words.now numbers.longs.now)) (sym t.sized)
       (room_now ready k t.up_to work (room_same (sizes_after n s₀) t.same_work ready.working_room), turn_ready ready k h out t.holds t.same_numbers)
 
   pub turning_bounded : Bounded (2 ^ 59) s

@@ -57,7 +57,7 @@ average-requires c =
     let e = c.split.ensures in
     average_ready c.requires _ _ _ _ _ e.out_hexes_after e.out_quads_after e.out_segments_after e.out_points_after c.split.new.words c.split.auto.words
 
-pub returns-clause-refined : goal.returns-clause-refined
-returns-clause-refined c =
+pub returns : goal.returns
+returns c =
     let e = c.split.ensures in
     round_holds _ _ _ _ _ _ _ c.average.ensures.output e.out_hexes_after e.out_quads_after e.out_segments_after e.out_points_after

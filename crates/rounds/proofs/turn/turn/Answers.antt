@@ -38,7 +38,7 @@ pub round_tables-requires : goal.round_tables-requires
 round_tables-requires c =
     let a = c.args in
     let e = refronted a.sizes c.counts_in-counts.result c.counts_in-counts.ensures (mesh_at a.output.now) (mesh_at a.working.now) c.requires.ready.0 c.front.ensures c.as_mesh.ensures c.copy_from.ensures.after c.front-2.ensures c.as_mesh-2.ensures in
-    subst (λ (m : Mesh). Ready m a.sizes (mesh_at a.output.now) a.numbers.now) (sym e) c.requires.ready.1
+    subst (λ (m : Mesh). Ready m a.sizes (mesh_at a.output.now) a.numbers.now.words.now a.numbers.now.longs.now) (sym e) c.requires.ready.1
 
 pub returns-clause-refined : goal.returns-clause-refined
 returns-clause-refined c =
