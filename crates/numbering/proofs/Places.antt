@@ -1,12 +1,12 @@
 -- The places of the parts' corners: as many as a part has corners, each below the cell's count. Assumes nothing.
-use mathlib.Core.Path.{◌≡◌, sym, ap, ◌∙◌}
+use mathlib.Core.Path.{◌≡◌, refl, sym, ap, ◌∙◌}
 use mathlib.Core.Logic.{◌⊎◌, inl, inr}
 use mathlib.Core.List.{List, [], ◌∷◌, map}
 use Prim.Native.Nat.{ℕ, zero, suc, ◌*◌, ◌/◌, ◌%◌, ◌≤◌, ◌<◌}
 use native.Mathlib.Nat.{zero-add, not-suc-le-zero, one-le-pow, mul-div-le, mul-div_cancel_left, mul-le-mul_left}
 use native.Mathlib.Omega.{arith}
-use lib.ListN.{length, get_or, take, length-map}
-use Rattle.rules.specs.Lists.{concat, concat_map, up_from, cut}
+use lib.ListN.{length, get_or, take, replicate, length-map}
+use Rattle.rules.specs.Lists.{concat, concat_map, overwritten, up_from, cut}
 use Rattle.rules.specs.Mesh.{Kind, hex, quad, segment, point, corners, singles, whole, by_dimension, places, place_of}
 use Rattle.rules.specs.Split.{key_at}
 use Rattle.lists.specs.Membership.{In}
@@ -151,6 +151,18 @@ few_listed Quads = omega arith
 few_listed Segments = omega arith
 few_listed SegmentFaces = omega arith
 few_listed Points = omega arith
+
+-- a cell by itself has its corners in order
+pub itself_listed : (p : Parts) → (p ≡ HexEdges → ⊥) → (p ≡ HexFaces → ⊥) → (p ≡ QuadEdges → ⊥) → take (length (places_listed p)) (overwritten (replicate 24 0) (0 ∷ 1 ∷ 2 ∷ 3 ∷ 4 ∷ 5 ∷ 6 ∷ 7 ∷ [])) ≡ places_listed p
+unfolding places_listed places by_dimension singles whole up_from concat overwritten
+itself_listed HexEdges h i j = absurd (h refl)
+itself_listed HexFaces h i j = absurd (i refl)
+itself_listed QuadEdges h i j = absurd (j refl)
+itself_listed Hexes h i j = refl
+itself_listed Quads h i j = refl
+itself_listed Segments h i j = refl
+itself_listed SegmentFaces h i j = refl
+itself_listed Points h i j = refl
 
 -- place i of the list, by its part and corner
 module _ (parts : Parts) (i : ℕ) (l : i < length (places_listed parts)) where

@@ -163,8 +163,8 @@ impl<'a> PartTables<'a> {
         let corners = kind.corner_count();
         let edges = kind.edges();
         let faces = kind.faces();
-        let edge_places = edges.listed(2);
-        let face_places = faces.listed(4);
+        let edge_places = edges.listed();
+        let face_places = faces.listed();
         let smallest = kind.smallest_parts();
         let edges_end = 2 * edges.count();
         let faces_end = 4 * faces.count();
