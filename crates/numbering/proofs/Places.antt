@@ -70,38 +70,6 @@ parts_by_corners Segments = omega arith
 parts_by_corners SegmentFaces = omega arith
 parts_by_corners Points = omega arith
 
--- a part has at most 8 corners
-pub small_parts : (parts : Parts) → part_corners parts ≤ 8
-small_parts HexEdges = omega arith
-small_parts HexFaces = omega arith
-small_parts Hexes = omega arith
-small_parts QuadEdges = omega arith
-small_parts Quads = omega arith
-small_parts Segments = omega arith
-small_parts SegmentFaces = omega arith
-small_parts Points = omega arith
-
--- a cell has corners, at most 8
-pub few_corners : (parts : Parts) → cell_corners parts ≤ 8
-few_corners HexEdges = omega arith
-few_corners HexFaces = omega arith
-few_corners Hexes = omega arith
-few_corners QuadEdges = omega arith
-few_corners Quads = omega arith
-few_corners Segments = omega arith
-few_corners SegmentFaces = omega arith
-few_corners Points = omega arith
-
-pub some_corners : (parts : Parts) → 0 < cell_corners parts
-some_corners HexEdges = omega arith
-some_corners HexFaces = omega arith
-some_corners Hexes = omega arith
-some_corners QuadEdges = omega arith
-some_corners Quads = omega arith
-some_corners Segments = omega arith
-some_corners SegmentFaces = omega arith
-some_corners Points = omega arith
-
 pub length_part_keys : (parts : Parts) (cell : List ℕ) → length (part_keys parts cell) ≡ length (places_of parts)
 unfolding part_keys
 length_part_keys parts cell = length-map (places_of parts) (key_at cell)

@@ -104,6 +104,7 @@ pub fn load(places: &[u8], from: &[u32], to: &mut [u32])
     requires within { Within (length from.now) places.now }
     ensures { to.new ≡ corners_at from.now places.now }
 {
+    // By number: a proof knows nothing of what was written through `iter_mut` in a `zip`.
     for (i, place) in places.iter().enumerate() {
         to[i] = from[usize::from(*place)];
     }

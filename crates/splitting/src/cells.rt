@@ -22,12 +22,13 @@ pub struct Known {
 // The tables of the edges and of the faces that have been met.
 #[derive(Drop)]
 pub struct PartTables<'a> {
-    pub edge_words: &'a mut [u32],
-    pub face_words: &'a mut [u32],
-    pub known: Known,
+    edge_words: &'a mut [u32],
+    face_words: &'a mut [u32],
+    known: Known,
 }
 
-// Meets the parts of a cell, of C corners each, in a table that has room for them all. The parameters are those of `meet_parts`.
+// Meets the parts of a cell, of C corners each, in a table that has room for them all. The parameters are those of `meet_parts`: the words, the
+// room and the count stand side by side in numbering, since as fields they are loaded again after each store.
 fn number_parts<const C: usize>(
     w: &mut [u32],
     room: usize,
@@ -137,6 +138,7 @@ impl<'a> PartTables<'a> {
     {
         let corners = given.kind.corner_count();
         let mut numbers = [0u32; 27];
+        // By number: a proof knows nothing of what was written through `chunks_exact_mut` in a `zip`.
         for i in 0..cells.len() / corners {
             let at = corners * i;
             let cell = &cells[at..at + corners];
