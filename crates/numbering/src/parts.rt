@@ -191,6 +191,7 @@ fn meet_cells<const C: usize>(
 }
 
 // Meets these parts of all cells of a flat table, of C corners each.
+#[tactic(auto, using(crate::proofs::Places::list_size, crate::proofs::Places::few_listed))]
 pub fn meet_table<const C: usize>(
     w: &mut [u32],
     room: usize,

@@ -68,6 +68,7 @@ impl<'a> PartTables<'a> {
 
     // Meets the edges and faces of a cell, and writes the numbers of its fine vertices to the front of `numbers`: its corners, its edges, its
     // faces, its own.
+    #[tactic(auto, using(crate::proofs::KindParts::few_fine, crate::proofs::KindParts::edges_within, crate::proofs::KindParts::faces_within))]
     fn number_cell(&mut self, given: Setting, cell: &[u32], own: usize, numbers: &mut [u32; 27])
         requires room { Room given.base self.old (part_keys (edges_of given.kind) cell.now) (part_keys (faces_of given.kind) cell.now) }
         requires cell_len { length cell.now ≡ corner_count given.kind }
@@ -105,6 +106,7 @@ impl<'a> PartTables<'a> {
 
     // Meets a cell, given by its corner numbers, and writes the corners of its children to the front of `out`. `numbers` is lent for the
     // numbers of its fine vertices.
+    #[tactic(auto, using(crate::proofs::Tables::length_smallest))]
     fn split_cell(
         &mut self,
         given: Setting,
@@ -147,6 +149,7 @@ impl<'a> PartTables<'a> {
     }
 
     // Splits all cells of a flat table. Their own vertices are numbered from `own` on; only those of hexes are among the children's corners.
+    #[tactic(auto, using(crate::proofs::KindParts::edges_short, crate::proofs::KindParts::faces_short))]
     pub fn split_cells(
         &mut self,
         base: Base,
