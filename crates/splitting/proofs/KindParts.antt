@@ -1,13 +1,13 @@
 -- The parts of each kind of cells, as the numbering has them. Assumes nothing.
 use mathlib.Core.Path.{◌≡◌, refl}
 use mathlib.Core.List.{List}
-use Prim.Native.Nat.{ℕ, ◌+◌, ◌/◌, ◌≤◌, ◌<◌}
+use Prim.Native.Nat.{ℕ, ◌+◌, ◌*◌, ◌/◌, ◌≤◌, ◌<◌}
 use native.Mathlib.Omega.{arith}
 use lib.ListN.{length, length-append, length-map}
 use Rattle.rules.specs.Lists.{concat, up_from, Key, index_of}
 use Rattle.rules.specs.Mesh.{singles, by_dimension, places, cell_parts}
 use Rattle.numbering.specs.Parts.{places_of, part_corners, cell_corners, part_keys, Within, listed_keys}
-use Rattle.numbering.proofs.Places.{length_part_keys, listed_within, sized_count, sized_keys}
+use Rattle.numbering.proofs.Places.{length_part_keys, list_size, few_listed, listed_within, sized_count, sized_keys}
 use Rattle.splitting.specs.declared.kinds.CellKind.{CellKind}
 use Rattle.splitting.specs.declared.kinds.CellKind.TheVariants.{Hex, Quad, Segment}
 use Rattle.splitting.specs.Kinds.{kind_of, corner_count, edges_of, faces_of}
@@ -43,6 +43,13 @@ pub face_places : (kind : CellKind) → places_of (faces_of kind) ≡ places (ki
 face_places Hex = refl
 face_places Quad = refl
 face_places Segment = refl
+
+-- the lists of their corners' places have room in an array of 24
+pub edges_short : (kind : CellKind) → 2 * length (places_of (edges_of kind)) ≤ 24
+edges_short kind = omega (arith, list_size (edges_of kind) 2 _ (edge_corners kind) refl, few_listed (edges_of kind))
+
+pub faces_short : (kind : CellKind) → 4 * length (places_of (faces_of kind)) ≤ 24
+faces_short kind = omega (arith, list_size (faces_of kind) 4 _ (face_corners kind) refl, few_listed (faces_of kind))
 
 -- the numbers of a cell's fine vertices are at most 27
 pub numbers_fit : (kind : CellKind) → corner_count kind + length (places_of (edges_of kind)) + length (places_of (faces_of kind)) + 1 ≤ 27

@@ -22,12 +22,13 @@ pub struct Known {
 // The tables of the edges and of the faces that have been met.
 #[derive(Drop)]
 pub struct PartTables<'a> {
-    pub edge_words: &'a mut [u32],
-    pub face_words: &'a mut [u32],
-    pub known: Known,
+    edge_words: &'a mut [u32],
+    face_words: &'a mut [u32],
+    known: Known,
 }
 
-// Meets the parts of a cell, of C corners each, in a table that has room for them all. The parameters are those of `meet_parts`.
+// Meets the parts of a cell, of C corners each, in a table that has room for them all. The parameters are those of `meet_parts`: the words, the
+// room and the count stand side by side in numbering, since as fields they are loaded again after each store.
 fn number_parts<const C: usize>(
     w: &mut [u32],
     room: usize,
@@ -67,6 +68,7 @@ impl<'a> PartTables<'a> {
 
     // Meets the edges and faces of a cell, and writes the numbers of its fine vertices to the front of `numbers`: its corners, its edges, its
     // faces, its own.
+    #[tactic(auto, using(crate::proofs::KindParts::few_fine, crate::proofs::KindParts::edges_within, crate::proofs::KindParts::faces_within))]
     fn number_cell(&mut self, given: Setting, cell: &[u32], own: usize, numbers: &mut [u32; 27])
         requires room { Room given.base self.old (part_keys (edges_of given.kind) cell.now) (part_keys (faces_of given.kind) cell.now) }
         requires cell_len { length cell.now ≡ corner_count given.kind }
@@ -104,6 +106,7 @@ impl<'a> PartTables<'a> {
 
     // Meets a cell, given by its corner numbers, and writes the corners of its children to the front of `out`. `numbers` is lent for the
     // numbers of its fine vertices.
+    #[tactic(auto, using(crate::proofs::Tables::length_smallest))]
     fn split_cell(
         &mut self,
         given: Setting,
@@ -137,6 +140,7 @@ impl<'a> PartTables<'a> {
     {
         let corners = given.kind.corner_count();
         let mut numbers = [0u32; 27];
+        // By number: a proof knows nothing of what was written through `chunks_exact_mut` in a `zip`.
         for i in 0..cells.len() / corners {
             let at = corners * i;
             let cell = &cells[at..at + corners];
@@ -145,6 +149,7 @@ impl<'a> PartTables<'a> {
     }
 
     // Splits all cells of a flat table. Their own vertices are numbered from `own` on; only those of hexes are among the children's corners.
+    #[tactic(auto, using(crate::proofs::KindParts::edges_short, crate::proofs::KindParts::faces_short))]
     pub fn split_cells(
         &mut self,
         base: Base,
@@ -163,8 +168,8 @@ impl<'a> PartTables<'a> {
         let corners = kind.corner_count();
         let edges = kind.edges();
         let faces = kind.faces();
-        let edge_places = edges.listed(2);
-        let face_places = faces.listed(4);
+        let edge_places = edges.listed();
+        let face_places = faces.listed();
         let smallest = kind.smallest_parts();
         let edges_end = 2 * edges.count();
         let faces_end = 4 * faces.count();

@@ -24,7 +24,8 @@ pub mod given;
 // A cell's fine vertices and children.
 pub mod cells;
 
-// Splits a sound mesh that has so many edges and faces. Its coordinates are not read; the contract speaks of the mesh.
+// Splits a sound mesh that has so many edges and faces. Its coordinates are not read; the contract speaks of the mesh. The children's tables are
+// lent one by one: `LentTables` has five tables, and no coordinates are written here.
 pub fn split(
     mesh: MeshTables,
     edges: usize,

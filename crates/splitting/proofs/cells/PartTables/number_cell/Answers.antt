@@ -2,7 +2,7 @@
 use Rattle.std.proofs.Common.{◌≡◌, ℕ, ◌+◌, ◌-◌, ◌/◌, ◌≤◌, List, [], ◌∷◌, ◌++◌, length, refl, sym, ap, ◌∙◌, zero-add, arith}
 use lib.ListN.{set, take, drop, length-append, length-map}
 use lib.Seq.{sets, length-sets}
-use borrow.Rule.Slice.PartMut.{put_mid, same_len_mid}
+use borrow.Rule.Slice.PartMut.{put_mid}
 use Rattle.rules.specs.Lists.{overwritten, meet_all}
 use Rattle.numbering.specs.Parts.{part_keys}
 use Rattle.numbering.proofs.Places.{length_part_keys}
@@ -10,7 +10,7 @@ use Rattle.memory.proofs.Stores.{sets_append, sets_front, sets_rest}
 use Rattle.splitting.specs.Kinds.{edges_of, faces_of}
 use Rattle.splitting.specs.Cells.{numbers_in, cell_numbers}
 use Rattle.splitting.specs.Words.{edges_in, faces_in}
-use Rattle.splitting.proofs.KindParts.{edges_listed, faces_listed, edges_counted, faces_counted, edges_within, faces_within, few_fine}
+use Rattle.splitting.proofs.KindParts.{edges_listed, faces_listed, edges_counted, faces_counted, few_fine}
 use Rattle.splitting.proofs.cells.PartTables.number_cell.Goals as goal
 
 -- four runs of stores behind each other
@@ -29,39 +29,8 @@ rest q l ds n u = rw n at (sets_rest q l ds (omega arith))
 pub number_parts-edges-requires-clause-keys_fit : goal.number_parts-edges-requires-clause-keys_fit
 number_parts-edges-requires-clause-keys_fit c = rw (edges_listed c.args.given c.args.cell.now) c.requires.room.edges_fit
 
-pub number_parts-edges-requires-clause-within : goal.number_parts-edges-requires-clause-within
-number_parts-edges-requires-clause-within c = edges_within c.args.given c.args.cell.now c.requires.cell_len
-
-pub number_parts-edges-requires-clause-parts_in_bounds : goal.number_parts-edges-requires-clause-parts_in_bounds
-number_parts-edges-requires-clause-parts_in_bounds c = omega (arith, few_fine c.args.given c.args.cell.now c.requires.cell_len, c.copy.auto.dst)
-
 pub number_parts-faces-requires-clause-keys_fit : goal.number_parts-faces-requires-clause-keys_fit
 number_parts-faces-requires-clause-keys_fit c = rw (faces_listed c.args.given c.args.cell.now) c.requires.room.faces_fit
-
-pub number_parts-faces-requires-clause-within : goal.number_parts-faces-requires-clause-within
-number_parts-faces-requires-clause-within c = faces_within c.args.given c.args.cell.now c.requires.cell_len
-
-pub number_parts-faces-requires-clause-parts_in_bounds : goal.number_parts-faces-requires-clause-parts_in_bounds
-number_parts-faces-requires-clause-parts_in_bounds c =
-    omega (arith, few_fine c.args.given c.args.cell.now c.requires.cell_len, c.number_parts-edges.auto.numbers, c.copy.auto.dst)
-
-pub offset_bounds-numbers-faces_to : goal.offset_bounds-numbers-faces_to
-offset_bounds-numbers-faces_to c = omega (arith, few_fine c.args.given c.args.cell.now c.requires.cell_len)
-
-pub slice_bounds-number_parts-count-2 : goal.slice_bounds-number_parts-count-2
-slice_bounds-number_parts-count-2 c =
-    omega (arith, few_fine c.args.given c.args.cell.now c.requires.cell_len, same_len_mid _ _ c.copy.new.dst _ c.number_parts-edges.auto.numbers, c.copy.auto.dst)
-
-pub slice_bounds-number_parts-start-2 : goal.slice_bounds-number_parts-start-2
-slice_bounds-number_parts-start-2 c =
-    omega (arith, few_fine c.args.given c.args.cell.now c.requires.cell_len, same_len_mid _ _ c.copy.new.dst _ c.number_parts-edges.auto.numbers, c.copy.auto.dst)
-
-pub offset_bounds-numbers-own_to : goal.offset_bounds-numbers-own_to
-offset_bounds-numbers-own_to c = omega (arith, few_fine c.args.given c.args.cell.now c.requires.cell_len)
-
-pub bounds-numbers-own_to : goal.bounds-numbers-own_to
-bounds-numbers-own_to c =
-    omega (arith, few_fine c.args.given c.args.cell.now c.requires.cell_len, c.number_parts-faces.auto.numbers, c.number_parts-edges.auto.numbers, c.copy.auto.dst)
 
 pub returns-clause-both_met : goal.returns-clause-both_met
 returns-clause-both_met c =

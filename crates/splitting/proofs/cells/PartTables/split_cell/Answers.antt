@@ -9,9 +9,6 @@ use Rattle.splitting.proofs.KindParts.{numbers_all}
 use Rattle.splitting.proofs.Tables.{few_numbers, length_smallest, smallest_within, children_listed, children_length, front_picked}
 use Rattle.splitting.proofs.cells.PartTables.split_cell.Goals as goal
 
-pub slice_bounds-load-end-2 : goal.slice_bounds-load-end-2
-slice_bounds-load-end-2 c = omega (arith, ap length c.args.given.smallest_are, length_smallest c.args.given.kind)
-
 pub slice_bounds-load-end-3 : goal.slice_bounds-load-end-3
 slice_bounds-load-end-3 c =
     sym (length-take-le _ c.args.out.now (omega (arith, ap length c.args.given.smallest_are, length_smallest c.args.given.kind)))

@@ -1,9 +1,8 @@
 -- What is lent of the arrays are the tables of the kind.
-use Rattle.std.proofs.Common.{◌≡◌, ◌*◌, ℕ, List, length, take, sym, ap, ◌∙◌, arith}
+use Rattle.std.proofs.Common.{◌≡◌, ◌*◌, ℕ, List, length, take, sym, ap, ◌∙◌}
 use Rattle.numbering.specs.declared.parts.Parts.{Parts}
 use Rattle.numbering.specs.Parts.{places_of, part_corners, places_listed}
-use Rattle.numbering.proofs.Places.{list_size, list_lent, few_listed}
-use Rattle.splitting.specs.Kinds.{edges_of, faces_of}
+use Rattle.numbering.proofs.Places.{list_size, list_lent}
 use Rattle.splitting.proofs.KindParts.{edge_corners, face_corners}
 use Rattle.splitting.proofs.Tables.{length_smallest}
 use Rattle.splitting.proofs.cells.PartTables.split_cells.Goals as goal
@@ -15,26 +14,6 @@ module _ (parts of : Parts) (c n : ℕ) (same : parts ≡ of) (p : c ≡ part_co
 
   lent : (array : List ℕ) → take (length (places_listed parts)) array ≡ places_listed parts → take (c * n) array ≡ places_listed of
   lent array e = list_lent of c n array p (rw same at q) (rw same at e)
-
-pub overflow_mul-edges_end : goal.overflow_mul-edges_end
-overflow_mul-edges_end c =
-    let k = c.args.kind in
-    omega (arith, size _ _ 2 _ c.edges-edges.ensures (edge_corners k) c.count-edges_end.ensures, few_listed (edges_of k))
-
-pub overflow_mul-faces_end : goal.overflow_mul-faces_end
-overflow_mul-faces_end c =
-    let k = c.args.kind in
-    omega (arith, size _ _ 4 _ c.faces-faces.ensures (face_corners k) c.count-faces_end.ensures, few_listed (faces_of k))
-
-pub slice_bounds-edge_places-end : goal.slice_bounds-edge_places-end
-slice_bounds-edge_places-end c =
-    let k = c.args.kind in
-    omega (arith, size _ _ 2 _ c.edges-edges.ensures (edge_corners k) c.count-edges_end.ensures, few_listed (edges_of k))
-
-pub slice_bounds-face_places-end : goal.slice_bounds-face_places-end
-slice_bounds-face_places-end c =
-    let k = c.args.kind in
-    omega (arith, size _ _ 4 _ c.faces-faces.ensures (face_corners k) c.count-faces_end.ensures, few_listed (faces_of k))
 
 pub slice_bounds-given-end : goal.slice_bounds-given-end
 slice_bounds-given-end c =
