@@ -85,13 +85,14 @@ fn read_in<const C: usize>(of: Parts, cells: &[u32], i: usize) -> [u32; C]
     ensures { result ≡ get_or (parts_in of cells.now) i [] }
 {
     let n = of.count();
+    let part = i % n;
     let k = of.cell_corners();
     let at = k * (i / n);
     let cell = &cells[at..at + k];
     let mut corners = [0u32; C];
     // No `from_fn`: under a const parameter its closure would need clauses of its own.
     for (j, corner) in corners.iter_mut().enumerate() {
-        *corner = cell[of.place(i % n, j)];
+        *corner = cell[of.place(part, j)];
     }
     corners
 }

@@ -43,13 +43,16 @@ pub fn has_coordinate_out_of_range(xs: &[i32]) -> bool
     xs.iter().fold(false, |found, x| found | is_outside(*x))
 }
 
-// Some corner of a table is not below n. This loop goes to the end as well.
+// Some corner of a table is not below n. This loop goes to the end as well, and compares numbers of 32 bits: of those it takes most at a time.
 pub fn reaches(n: usize, table: &[u32]) -> bool
     ensures { result ≡ any (leb n) table.now }
 {
+    let Ok(n) = u32::try_from(n) else {
+        return false;
+    };
     table
         .iter()
-        .fold(false, |found, corner| found | (n <= *corner as usize))
+        .fold(false, |found, corner| found | (n <= *corner))
 }
 
 // 4, corner out of range (rule 7.4).
