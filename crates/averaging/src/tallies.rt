@@ -4,7 +4,7 @@ ghost use Rattle.rules.specs.Lists.{cut};
 ghost use Rattle.averaging.specs.Tally.{tally_at, nothing, corner_step, Spare, Tallied};
 ghost use Rattle.averaging.specs.Pass.{gathered_at, child_step, cell_step, table_step, cell_count, Known, Near, Families};
 
-use crate::coordinates::{child_sums, gather};
+use crate::coordinates::Gathered;
 use crate::entries::entries;
 
 // The rank and the valence of each vertex, and its sums on the three axes.
@@ -58,15 +58,13 @@ impl Tallies<'_> {
         children: &[[u32; N]; N],
         weights: &[[u8; N]; N],
         d: u32,
-        gathered: &[[u64; 3]; N],
+        gathered: &Gathered<N>,
     )
-        requires few { N ≤ 8 }
-        requires room { ((i : ℕ) → i < N → Known (length self.old.ranks.now) (get_or children.now i [])) × Spare (N * N) self.old }
-        requires below { (u a : ℕ) → u < N → a < 3 → gathered_at gathered.now a u < 2 ^ 30 }
-        ensures { Tallied (N * N) (λ (a : ℕ). cell_step N d weights.now (gathered_at gathered.now a) children.now) self.old self.new }
+        requires { ((i : ℕ) → i < N → Known (length self.old.ranks.now) (get_or children.now i [])) × Spare (N * N) self.old }
+        ensures { Tallied (N * N) (λ (a : ℕ). cell_step N d weights.now (gathered_at gathered.now.corners a) children.now) self.old self.new }
     {
         for (row, child) in weights.iter().zip(children) {
-            let sums = child_sums(row, gathered);
+            let sums = gathered.child_sums(row);
             self.count_child(child, d, sums);
         }
     }
@@ -90,7 +88,7 @@ impl Tallies<'_> {
         let cells: &[[u32; N]] = entries(corners);
         let families: &[[[u32; N]; N]] = entries(entries(fine));
         for (cell, family) in cells.iter().zip(families) {
-            let gathered = gather(cell, vertices);
+            let gathered = Gathered::of(cell, vertices);
             self.count_cell(family, weights, d, &gathered);
         }
     }

@@ -169,8 +169,8 @@ impl Entry for i32 {
     ghost back = { of_field_to_field };
 }
 
-// Reads n entries of w bits from bit `at` on into the front of t. The whole of t is lent: of a part of a slice in a struct, only the length is
-// known afterwards.
+// Reads n entries of w bits from bit `at` on into the front of t. Their count stands beside t, since of a part of a slice that is lent out of a
+// struct's field only the length is known afterwards.
 pub fn get_table<T: Entry>(s: &[u8], at: usize, w: u32, t: &mut [T], n: usize)
     requires room { (w ≤ 32) × (n ≤ length t.old) × (at + w * n ≤ 8 * length s.now) × (at + w * n ≤ 2 ^ 60) }
     requires fields { (v : ℕ) → v < 2 ^ w → T.IsField v }

@@ -25,7 +25,7 @@ pub fn next_sizes(s: Sizes) -> Sizes
     }
 }
 
-// What some rounds make of the sizes.
+// What some rounds make of the sizes. A range, since there is nothing to go over: each round is made of the one before.
 pub fn sizes_after(rounds: u32, s: Sizes) -> Sizes
     requires bounded { Bounded (2 ^ 23) s }
     requires rounds_bound { rounds ≤ 8 }

@@ -1,13 +1,13 @@
 -- What is answered of a refusal by its name is what the rules answer of its number. Assumes nothing.
-use Rattle.std.proofs.Common.{◌≡◌, ℕ, zero, suc, ℤ, refl, sym, arith}
+use Rattle.std.proofs.Common.{◌≡◌, ℕ, zero, suc, refl, sym, arith}
 use Rattle.std.specs.Prelude.{Err}
 use Rattle.rules.specs.declared.Counts.{Counts}
 use Rattle.rules.specs.declared.CountsAnswer.{CountsAnswer}
 use Rattle.rules.specs.declared.Refusal.{Refusal}
 use Rattle.rules.specs.declared.Refusal.TheVariants.{PartialEntry, CountOutOfRange, CoordinateOutOfRange, CornerOutOfRange, RepeatedCorner, DuplicateCell, MismatchedFace, IsolatedVertex, TooManyRounds, ResultTooLarge, ShortBuffer, WrongFileLength, UnknownForm, WrongIndexWidth, NonzeroPadding}
-use Rattle.rules.specs.Answers.{number_of, counts_answer_of, count_answer_of, no_position}
+use Rattle.rules.specs.Answers.{number_of, counts_answer_of, count_answer_of}
 use Rattle.rules.specs.Counts.{no_counts}
-use Rattle.rules.specs.EntryPoints.{counts_answer, count_answer, position}
+use Rattle.rules.specs.EntryPoints.{counts_answer, count_answer}
 
 -- a refusal's answer has no counts but zeros
 pub refused_answer : (n : ℕ) (c : Counts) → (n ≡ 0 → ⊥) → ◌≡◌ {A = CountsAnswer} (record { refusal = n; counts = no_counts }) (counts_answer n c)
@@ -39,6 +39,3 @@ refused_counts r c =
 
 pub refused_count : (r : Refusal) (n : ℕ) → count_answer (number_of r) n ≡ count_answer_of (Err r)
 refused_count r n = let e = (number_is_suc r).1 in rw e
-
-pub refused_position : (r : Refusal) (x y z : ℤ) → position (number_of r) x y z ≡ no_position
-refused_position r x y z = let e = (number_is_suc r).1 in rw e

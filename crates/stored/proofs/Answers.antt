@@ -48,7 +48,7 @@ module _ (s : List ℕ) (t : Mesh) where
       unread r (reading_later s (counts_of t) ∙ refusal_stays (file_checks s 0) _ r (refusal_told (file_checks s 0) (header_of s).counts r e))
 
   module _ (c : Counts) (e : counts_answer_of (Ok c) ≡ counts_answer (file_checks s 0) (header_of s).counts) where
-    pub counts_read : (header_of s).counts ≡ c
+    counts_read : (header_of s).counts ≡ c
     counts_read = (counts_told (file_checks s 0) (header_of s).counts c e).1
 
     -- all that is left is check 11

@@ -11,7 +11,7 @@ use crate::header::{HeadedFile, read_counts};
 use crate::layout::{Layout, layout_of};
 use rules::{Counts, Refusal};
 
-// Whether some corner is not below n: all tables of corners are one row of fields.
+// Whether some corner is not below n: all tables of corners are one row of fields. Fields are no elements, so that the loop counts them.
 fn reaches(s: &[u8], at: Layout, n: u32) -> bool
     requires { (at.width ≤ 32) × (at.hexes + at.width * at.corners ≤ 8 * length s.now) × (at.hexes + at.width * at.corners ≤ 2 ^ 60) }
     ensures { result ≡ any (leb n) (table_at s.now at.hexes at.width at.corners) }

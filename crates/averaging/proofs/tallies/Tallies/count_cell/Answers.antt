@@ -29,15 +29,15 @@ pub count_child-requires : goal.count_child-requires
 count_child-requires g c =
     let l = c.loop-row in
     let t = turn g (goal.at.count_child-requires g c).In-Some in
-    (omega (arith, c.requires.few), ((rw (t.2, l.invariant.counted.ranks_kept) (c.requires.room.0 (length l.yielded) t.0), spare_after (g.row.N * length l.yielded) (part g.row.N (length l.yielded) t.0) l.invariant.counted c.requires.room.1), λ a h. (c.child_sums-sums.ensures a h).1))
+    (omega (arith, c.args.gathered.now.few), ((rw (t.2, l.invariant.counted.ranks_kept) (c.requires.0 (length l.yielded) t.0), spare_after (g.row.N * length l.yielded) (part g.row.N (length l.yielded) t.0) l.invariant.counted c.requires.1), λ a h. (c.child_sums-sums.ensures a h).1))
 
 pub loop-row-preserved : goal.loop-row-preserved
 loop-row-preserved g c =
     let a = c.args in
     let t = turn g (goal.at.loop-row-preserved g c).In-Some in
     let i = length c.loop-row.yielded in
-    let s = step g.row.N a.d a.weights.now a.gathered.now a.children.now in
-    let same = λ (x f : ℕ) (h : x < 3) (t' : Tally). ap₂ (λ (z : ℕ) (child : List ℕ). child_step g.row.N a.d z child f t') ((c.child_sums-sums.ensures x h).0 ∙ ap (λ (row : List ℕ). weighed g.row.N row (gathered_at a.gathered.now x)) t.1) t.2 in
+    let s = step g.row.N a.d a.weights.now a.gathered.now.corners a.children.now in
+    let same = λ (x f : ℕ) (h : x < 3) (t' : Tally). ap₂ (λ (z : ℕ) (child : List ℕ). child_step g.row.N a.d z child f t') ((c.child_sums-sums.ensures x h).0 ∙ ap (λ (row : List ℕ). weighed g.row.N row (gathered_at a.gathered.now.corners x)) t.1) t.2 in
     record { can_next = (tt, tt); is_finite = tt; counted = rw length-append (tallied_again s i (omega arith) c.loop-row.invariant.counted (tallied_by (λ (x : ℕ). s x i) same c.count_child.ensures)) }
 
 pub returns : goal.returns
@@ -45,4 +45,4 @@ unfolding cell_step
 returns g c =
     let a = c.args in
     let e = zip_end a.weights.now a.children.now c.loop-row.yielded _ _ c.next.new.self _ (cc) (cc) c.loop-row.yielded_by c.in-None.is c.next.ensures.steps in
-    tallied_end (λ (i : ℕ). g.row.N * i) (step g.row.N a.d a.weights.now a.gathered.now a.children.now) (omega (arith, e, c.told-weights, c.told-children)) c.loop-row.invariant.counted
+    tallied_end (λ (i : ℕ). g.row.N * i) (step g.row.N a.d a.weights.now a.gathered.now.corners a.children.now) (omega (arith, e, c.told-weights, c.told-children)) c.loop-row.invariant.counted

@@ -30,9 +30,9 @@ step n d weights vertices cells families a c = cell_step n d weights (corner_coo
 pub loop-cell-init : goal.loop-cell-init
 loop-cell-init g c = record { can_next = (tt, tt); is_finite = tt; counted = tallied_start _ _ c.args.self.now }
 
-pub gather-gathered-requires : goal.gather-gathered-requires
-gather-gathered-requires g c =
-    let t = turn g (goal.at.gather-gathered-requires g c).In-Some in
+pub of-gathered-requires : goal.of-gathered-requires
+of-gathered-requires g c =
+    let t = turn g (goal.at.of-gathered-requires g c).In-Some in
     (omega (arith, c.requires.few), (omega (arith, c.requires.few), (c.requires.few.1, (rw t.1 (c.requires.cells.old _ t.0), c.requires.near))))
 
 pub count_cell-requires : goal.count_cell-requires
@@ -43,7 +43,7 @@ count_cell-requires g c =
     let few : n * n ≤ 64 = square n c.requires.few.1 in
     let after : length l.yielded < cell_count n c.args.corners.now = rw (← length_cut n c.args.corners.now) t.0 in
     let room = spare_after (n * n * length l.yielded) (part n (cell_count n c.args.corners.now) (length l.yielded) after) l.invariant.counted c.requires.room in
-    (omega arith, (omega arith, (omega arith, (omega arith, (omega arith, (c.requires.few.1, (((λ i h. rw (t.2, l.invariant.counted.ranks_kept) (c.requires.cells.new (length l.yielded) i t.0 h)), room), λ u a h k. (c.gather-gathered.ensures u a h k).1)))))))
+    (omega arith, (omega arith, (omega arith, (omega arith, (omega arith, ((λ i h. rw (t.2, l.invariant.counted.ranks_kept) (c.requires.cells.new (length l.yielded) i t.0 h)), room))))))
 
 pub loop-cell-preserved : goal.loop-cell-preserved
 loop-cell-preserved g c =
@@ -52,7 +52,7 @@ loop-cell-preserved g c =
     let i = length c.loop-cell.yielded in
     let s = step g.row.N a.d a.weights.now a.vertices.now (cut g.row.N a.corners.now) (cut g.row.N (cut g.row.N a.fine.now)) in
     let same = λ (x f : ℕ) (h : x < 3) (t' : Tally).
-    cell_same g.row.N a.d a.weights.now (gathered_at c.gather-gathered.result x) (corner_coordinate a.vertices.now c.in-Some.cell.now x) c.in-Some.family.now f (λ u k. (c.gather-gathered.ensures u x k h).0) t'
+    cell_same g.row.N a.d a.weights.now (gathered_at c.of-gathered.result.corners x) (corner_coordinate a.vertices.now c.in-Some.cell.now x) c.in-Some.family.now f (λ u k. c.of-gathered.ensures u x k h) t'
     ∙ ap₂ (λ (cell : List ℕ) (family : List (List ℕ)). cell_step g.row.N a.d a.weights.now (corner_coordinate a.vertices.now cell x) family f t') t.1 t.2 in
     record { can_next = (tt, tt); is_finite = tt; counted = rw length-append (tallied_again s i (omega arith) c.loop-cell.invariant.counted (tallied_by (λ (x : ℕ). s x i) same c.count_cell.ensures)) }
 

@@ -1,6 +1,6 @@
 -- The default, 0.0, is no millimetres.
 use Rattle.std.proofs.Common.{◌≡◌, ap, rules}
-use lib.Ieee.{Float, binary64, of_bits}
+use lib.Ieee.{binary64, of_bits}
 use Rattle.rules.specs.declared.Millimetres.{Millimetres}
 use Rattle.rules.specs.declared.MillimetresAnswer.{MillimetresAnswer}
 use Rattle.rules.specs.Answers.{number_of, no_position}
