@@ -11,7 +11,8 @@ ghost use Rattle.irregular.specs.Tallied.{Tallied, Counted, Ranked, unusual};
 use checks::marks::mark;
 use tables::MeshTables;
 
-// Counts each corner of a table whose vertex is in the window and has the rank.
+// Counts each corner of a table whose vertex is in the window and has the rank. Corners name their vertices, so both numbers of one are
+// reached by its place.
 fn tally(ranks: &[u32], valences: &mut [u32], first: usize, rank: u32, table: &[u32])
     requires same_length { length valences.old ≡ length ranks.now }
     requires counts_fit { (v : ℕ) → v < length ranks.now → get_or valences.old v 0 + length table.now < 2 ^ 32 }
@@ -81,7 +82,7 @@ fn count_in_window(ranks: &mut [u32], valences: &mut [u32], first: usize, mesh: 
     count_unusual(ranks, valences)
 }
 
-// How many vertices are irregular.
+// How many vertices are irregular. The windows are a range of first vertices: the same lent numbers serve each, so there is no slice to cut.
 pub fn count(w: &mut [u32], mesh: MeshTables) -> u64
     requires in_bounds { 2 ≤ length w.old }
     requires few_corners { corner_count (mesh_in mesh) < 2 ^ 32 }

@@ -9,7 +9,7 @@ use lib.IntN.{pos}
 use lib.Dec.{lit<}
 use Rattle.lines.specs.declared.kinds.Kind.{Kind}
 use Rattle.lines.specs.declared.kinds.Kind.TheVariants.{Hex, Quad, Segment, Point}
-use Rattle.lines.specs.Kinds.{corners_of}
+use Rattle.lines.specs.Kinds.{corner_count}
 use Rattle.rules.specs.Lists.{concat_map}
 use Rattle.rules.specs.Mesh.{Mesh, Topology}
 use Rattle.rules.specs.Averaging.{rank, valence}
@@ -67,7 +67,7 @@ mesh_line_is m =
     let n : length m.points / 1 ≡ length m.points = omega arith in
     rw n
 
-pub some_corners : (k : Kind) → 0 < corners_of k
+pub some_corners : (k : Kind) → 0 < corner_count k
 some_corners Hex = lit< tt
 some_corners Quad = lit< tt
 some_corners Segment = lit< tt

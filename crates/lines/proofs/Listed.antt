@@ -1,12 +1,11 @@
 -- What is listed of a refusal and of a finished mesh, and the tests of the input. Assumes nothing.
 use mathlib.Core.Path.{◌≡◌, refl, sym, ap, ◌∙◌}
-use mathlib.Core.List.{List, [], ◌∷◌}
+use mathlib.Core.List.{List}
 use Prim.Native.Nat.{ℕ, zero, suc, ◌-◌, ◌≤◌, ◌<◌}
-use native.Mathlib.Decide.{dec_lt}
 use native.Mathlib.Omega.{arith}
 use lib.Dec.{ltb}
-use lib.ListN.{length, take, drop, get_or}
-use lib.Seq.{take_all, length-take-le, get_or-take}
+use lib.ListN.{length, take, drop, get_or, length-drop}
+use lib.Seq.{take_all}
 use borrow.Author.Tests.{lt-ltb, le-ltb, ltb-false, ne_eqb}
 use Rattle.rules.specs.declared.CountsAnswer.{CountsAnswer}
 use Rattle.rules.specs.Mesh.{Mesh, topology}
@@ -52,42 +51,21 @@ finished_fits m rounds a =
       near = refined_near m a.accepted rounds;
     }
 
--- ---- the first n bytes of the input array
+-- ---- the input
 
--- what stands behind the first byte
-rest_of_front : (k : ℕ) (l : List ℕ) → drop 1 (take (suc k) l) ≡ take k (drop 1 l)
-rest_of_front zero [] = refl
-rest_of_front (suc k) [] = refl
-rest_of_front k (x ∷ l) = refl
-
-module _ (input : List ℕ) (n : ℕ) (full : length input ≡ 16_386) where
-  too_long : 16_385 < n → 16_385 < length (take n input)
-  too_long h = elim (dec_lt (length input) n) [
-    | yes l ↦ rw (take_all n input (omega arith)) (omega arith)
-    | no f ↦ rw (length-take-le n input (omega arith)) h
-  ]
-
-  pub over_limit : 16_385 < n → refused_line 11 ≡ listing (take n input)
+module _ (input : List ℕ) where
+  pub over_limit : 16_385 < length input → refused_line 11 ≡ listing input
   unfolding listing listing_refusal
-  over_limit h = rw (lt-ltb 16_385 (length (take n input)) (too_long h))
+  over_limit h = rw (lt-ltb 16_385 (length input) h)
 
-  pub no_byte : n ≡ 0 → refused_line 13 ≡ listing (take n input)
+  pub no_byte : length input ≡ 0 → refused_line 13 ≡ listing input
   unfolding listing listing_refusal
   no_byte h = rw h
 
-pub some_bytes : (input : List ℕ) (n : ℕ) → length input ≡ 16_386 → n ≤ 16_385 → (n ≡ 0 → ⊥)
-    → let s = take (n - 1) (drop 1 input) in
-    listed (stored_refining_refusal s (get_or input 0 0)) (refined (get_or input 0 0) (stored_mesh s)) ≡ listing (take n input)
-unfolding listing listing_refusal
-some_bytes input zero full l h = absurd (h refl)
-some_bytes input (suc k) full l h =
-    let front = take (suc k) input in
-    let long = length-take-le (suc k) input (omega arith) in
-    let less : suc k - 1 ≡ k = omega arith in
-    sym (rw (
-      less,
-      le-ltb 16_385 (length front) (omega arith),
-      ne_eqb (length front) 0 (λ e. omega arith),
-      rest_of_front k input,
-      get_or-take (suc k) input 0 0 (omega arith),
-    ))
+  -- what stands behind the first byte
+  pub some_bytes : length input ≤ 16_385 → (length input ≡ 0 → ⊥) → let s = take (length input - 1) (drop 1 input) in
+      listed (stored_refining_refusal s (get_or input 0 0)) (refined (get_or input 0 0) (stored_mesh s)) ≡ listing input
+  unfolding listing listing_refusal
+  some_bytes l h =
+      let whole : take (length input - 1) (drop 1 input) ≡ drop 1 input = take_all (length input - 1) (drop 1 input) (omega (arith, length-drop 1 input)) in
+      sym (rw (whole, le-ltb 16_385 (length input) l, ne_eqb (length input) 0 h))

@@ -3,11 +3,11 @@ use Rattle.std.specs.Prelude.{ℕ}
 use Rattle.lines.specs.declared.kinds.Kind.{Kind}
 use Rattle.lines.specs.declared.kinds.Kind.TheVariants.{Hex, Quad, Segment, Point}
 
-abbrev pub corners_of : Kind → ℕ
-corners_of Hex = 8
-corners_of Quad = 4
-corners_of Segment = 2
-corners_of Point = 1
+abbrev pub corner_count : Kind → ℕ
+corner_count Hex = 8
+corner_count Quad = 4
+corner_count Segment = 2
+corner_count Point = 1
 
 -- h, q, s and p
 abbrev pub letter_of : Kind → ℕ

@@ -1,7 +1,8 @@
 // The kinds of cells, by how many corners a cell has and by the letter of its lines.
 ghost use Rattle.std.specs.Prelude.{◌≡◌, ◌<◌};
-ghost use Rattle.lines.specs.Kinds.{corners_of, letter_of};
+ghost use Rattle.lines.specs.Kinds.{corner_count, letter_of};
 
+// Its own beside `CellKind` of splitting: that one has only the kinds that are split and names their parts, this one has points and letters.
 #[derive(Clone, Copy)]
 pub enum Kind {
     Hex,
@@ -11,8 +12,8 @@ pub enum Kind {
 }
 
 impl Kind {
-    pub fn corners(self) -> usize
-        ensures value { result ≡ corners_of self }
+    pub fn corner_count(self) -> usize
+        ensures value { result ≡ corner_count self }
         ensures some { 0 < result }
     {
         match self {

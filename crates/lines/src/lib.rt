@@ -3,7 +3,7 @@
 // Promises of `lines`, for every input: the rules' bytes stand at the front of the output, and the answer is how many they are.
 #![tactic(auto)]
 
-ghost use Rattle.std.specs.Prelude.{◌≡◌, ◌+◌, ◌≤◌, length, take};
+ghost use Rattle.std.specs.Prelude.{◌≡◌, ◌+◌, ◌≤◌, length};
 ghost use Rattle.rules.specs.Lists.{overwritten};
 ghost use Rattle.rules.specs.Averaging.{refined};
 ghost use Rattle.rules.specs.StoredForm.{stored_mesh};
@@ -12,7 +12,7 @@ ghost use Rattle.rules.specs.Listing.{listed, listing};
 ghost use Rattle.lines.specs.Appended.{Printed};
 ghost use Rattle.lines.specs.Fitting.{output_size};
 
-use crate::rows::{push_mesh_lines, push_refused_line};
+use crate::rows::{FittingMesh, push_mesh_lines, push_refused_line};
 use crate::text::Text;
 use fixed::{Arrays, refine_stored};
 use rules::Refusal;
@@ -38,27 +38,31 @@ fn push_stored_lines(bytes: &[u8], rounds: u32, out: &mut Text)
     let mut arrays = Arrays::new();
     let mut tables = arrays.lend();
     match refine_stored(bytes, rounds, &mut tables) {
-        Ok(counts) => push_mesh_lines(tables.as_mesh().front(counts), out),
+        Ok(counts) => {
+            let finished = FittingMesh {
+                tables: tables.as_mesh().front(counts),
+            };
+            push_mesh_lines(finished, out);
+        }
         Err(refusal) => push_refused_line(refusal, out),
     }
 }
 
-// What the program prints of the first n bytes of its input array, or of all of them if n is larger: the lines stand at the front of the
-// output, and the answer says how long they are. The array has one byte more than the limit, so that a longer input shows.
-pub fn lines(input: &[u8; 16386], n: usize, out: &mut [u8; 112348]) -> usize
-    ensures count { result ≡ length (listing (take n input.now)) }
-    ensures output { out.new ≡ overwritten out.old (listing (take n input.now)) }
+// What the program prints of its input, of any length: the lines stand at the front of the output, and the answer says how long they are.
+pub fn lines(input: &[u8], out: &mut [u8; 112348]) -> usize
+    ensures count { result ≡ length (listing input.now) }
+    ensures output { out.new ≡ overwritten out.old (listing input.now) }
 {
     let mut text = Text {
         buffer: out,
         length: 0,
     };
-    if LIMIT < n {
+    if LIMIT < input.len() {
         push_refused_line(Refusal::ShortBuffer, &mut text);
-    } else if n == 0 {
+    } else if input.is_empty() {
         push_refused_line(Refusal::WrongFileLength, &mut text);
     } else {
-        push_stored_lines(&input[1..n], u32::from(input[0]), &mut text);
+        push_stored_lines(&input[1..], u32::from(input[0]), &mut text);
     }
     text.length
 }

@@ -4,7 +4,7 @@ ghost use Rattle.rules.specs.Lists.{cut};
 ghost use Rattle.rules.specs.Mesh.{topology};
 ghost use Rattle.rules.specs.Averaging.{holding, rank, valence};
 ghost use Rattle.tables.specs.Lent.{mesh_in};
-ghost use Rattle.lines.specs.Kinds.{corners_of};
+ghost use Rattle.lines.specs.Kinds.{corner_count};
 
 use crate::kinds::Kind;
 use tables::MeshTables;
@@ -17,10 +17,10 @@ pub struct Ranked {
 
 // How many cells of a table hold vertex v.
 fn count_holding(v: u32, kind: Kind, table: &[u32]) -> usize
-    ensures { result ≡ length (holding v (cut (corners_of kind) table.now)) }
+    ensures { result ≡ length (holding v (cut (corner_count kind) table.now)) }
 {
     table
-        .chunks_exact(kind.corners())
+        .chunks_exact(kind.corner_count())
         .filter(|cell| cell.contains(&v))
         .count()
 }

@@ -4,7 +4,7 @@ ghost use Rattle.rules.specs.Text.{text};
 ghost use Rattle.rules.specs.Listing.{decimal, signed_decimal, line};
 ghost use Rattle.lines.specs.Appended.{Room, Appended};
 
-// A buffer whose first `length` bytes are text.
+// A buffer whose first `length` bytes are text. The room that is left is no field of it: each call asks for just the bytes that it appends.
 #[derive(Drop)]
 pub struct Text<'a> {
     pub buffer: &'a mut [u8],

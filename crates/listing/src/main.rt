@@ -1,5 +1,5 @@
-// The listing program (section 10 of docs/SPECIFICATION.md): reads standard input, one byte with the rounds and a stored mesh, and prints the refined mesh or the
-// refusal. What is printed is what `lines::lines` promises; this file only reads and writes.
+// The listing program (section 10 of docs/SPECIFICATION.md): reads standard input, one byte with the rounds and a stored mesh, and prints the
+// refined mesh or the refusal. What is printed is what `lines::lines` promises; this file only reads and writes.
 #![tactic(auto)]
 
 ghost use Rattle.std.specs.Prelude.{◌≤◌, length, IfOk};
@@ -22,9 +22,10 @@ fn read_full<R: Read>(reader: &mut R, buffer: &mut [u8]) -> io::Result<usize>
 }
 
 fn main(rt: HostRuntime) -> io::Result<()> {
+    // One byte more than the program takes, so that a longer input shows.
     let mut input = [0u8; 16386];
     let n = read_full(&mut rt.reader(), &mut input)?;
     let mut out = [0u8; 112348];
-    let count = lines::lines(&input, n, &mut out);
+    let count = lines::lines(&input[..n], &mut out);
     rt.write_all(&out[..count])
 }

@@ -90,7 +90,7 @@ fn turn(
     round_tables(sizes, working.as_mesh().front(counts), output, numbers);
 }
 
-// The rounds, one after the other, of the mesh at the front of the output tables.
+// The rounds, one after the other, of the mesh at the front of the output tables. The range only counts them: a round does not know its number.
 pub fn turns(
     rounds: u32,
     start: Sizes,

@@ -15,11 +15,11 @@ refine_stored-requires c = c.lend-tables.ensures.sizes
 pub front-requires : goal.front-requires
 front-requires c = let r = c.in-Ok.ensures in finished_room (refining r.answer r.output) refl c.as_mesh.ensures
 
-pub push_mesh_lines-requires-clause-fitting : goal.push_mesh_lines-requires-clause-fitting
-push_mesh_lines-requires-clause-fitting c =
+pub invariant_of-finished : goal.invariant_of-finished
+invariant_of-finished c =
     let r = c.in-Ok.ensures in
     let d = refining r.answer r.output in
-    subst (λ (m : Mesh). Fitting m) (sym (finished_mesh d refl c.as_mesh.ensures c.front.ensures)) (finished_fits _ _ (refining_accepted d refl))
+    record { fits = subst (λ (m : Mesh). Fitting m) (sym (finished_mesh d refl c.as_mesh.ensures c.front.ensures)) (finished_fits _ _ (refining_accepted d refl)) }
 
 pub returns-in-Ok : goal.returns-in-Ok
 returns-in-Ok c =

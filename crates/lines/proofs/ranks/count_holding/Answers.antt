@@ -12,12 +12,12 @@ use Rattle.lines.proofs.ranks.count_holding.Goals as goal
 pub returns : goal.returns
 unfolding holding
 returns c =
-    let k = c.corners.result in
+    let k = c.corner_count.result in
     let table = c.args.table.now in
     let s = c.filter.ensures.source in
     count_from_yields_List _ _ c.count.ensures.ran
     (YieldsList-from_filter {ys = cut k table} _ (λ cell. list_any (λ y. eqb y c.args.v) cell)
-    (YieldsList-from_cut k table c.corners.ensures.some (ap chunks_exact_size s ∙ c.chunks_exact.ensures.size) (ap chunks_exact_rest s ∙ c.chunks_exact.ensures.rest))
+    (YieldsList-from_cut k table c.corner_count.ensures.some (ap chunks_exact_size s ∙ c.chunks_exact.ensures.size) (ap chunks_exact_rest s ∙ c.chunks_exact.ensures.rest))
     c.filter.ensures.closure (λ x b q h. search (rules, tests)))
     ∙ ap length (filter_keep _ (has c.args.v) (has_contains c.args.v) (cut k table))
-    ∙ ap (λ n. length (holding c.args.v (cut n table))) c.corners.ensures.value
+    ∙ ap (λ n. length (holding c.args.v (cut n table))) c.corner_count.ensures.value

@@ -4,7 +4,7 @@ use Rattle.lines.proofs.Fields.{mesh_line_is}
 use Rattle.lines.proofs.rows.push_mesh_line.Goals as goal
 
 pub push_line-requires : goal.push_line-requires
-push_line-requires c = rw (mesh_line_is (mesh_in c.args.mesh)) at c.requires.room
+push_line-requires c = rw (mesh_line_is (mesh_in c.args.fitting.tables)) at c.requires
 
 pub returns : goal.returns
-returns c = rw (mesh_line_is (mesh_in c.args.mesh)) c.push_line.ensures
+returns c = rw (mesh_line_is (mesh_in c.args.fitting.tables)) c.push_line.ensures

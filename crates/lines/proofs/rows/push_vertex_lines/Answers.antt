@@ -16,18 +16,18 @@ listed : (n v : ℕ) → v < n → v < length (up_from 0 n)
 listed n v h = rw (length_up_from 0 n) h
 
 pub loop-v-init : goal.loop-v-init
-loop-v-init c = let m = mesh_in c.args.mesh in print_start (vertex_line m (topology m)) (up_from 0 (length m.vertices / 3)) _
+loop-v-init c = let m = mesh_in c.args.fitting.tables in print_start (vertex_line m (topology m)) (up_from 0 (length m.vertices / 3)) _
 
 pub push_vertex_line-requires-clause-room : goal.push_vertex_line-requires-clause-room
 push_vertex_line-requires-clause-room c =
-    let m = mesh_in c.args.mesh in
+    let m = mesh_in c.args.fitting.tables in
     let n = length m.vertices / 3 in
     let h = c.loop-v-test.true in
-    rw (numbered n c.loop-v.v h) at (print_room (vertex_line m (topology m)) (up_from 0 n) c.loop-v.v c.loop-v.invariant (listed n c.loop-v.v h) 0 c.requires.room)
+    rw (numbered n c.loop-v.v h) at (print_room (vertex_line m (topology m)) (up_from 0 n) c.loop-v.v c.loop-v.invariant (listed n c.loop-v.v h) 0 c.requires)
 
 pub loop-v-preserved : goal.loop-v-preserved
 loop-v-preserved c =
-    let m = mesh_in c.args.mesh in
+    let m = mesh_in c.args.fitting.tables in
     let n = length m.vertices / 3 in
     let h = c.loop-v-test.true in
     print_turn (vertex_line m (topology m)) (up_from 0 n) c.loop-v.v c.loop-v.invariant (listed n c.loop-v.v h) 0
@@ -35,6 +35,6 @@ loop-v-preserved c =
 
 pub returns : goal.returns
 returns c =
-    let m = mesh_in c.args.mesh in
+    let m = mesh_in c.args.fitting.tables in
     let n = length m.vertices / 3 in
     print_end (vertex_line m (topology m)) (up_from 0 n) c.loop-v.v c.loop-v.invariant (rw (length_up_from 0 n) c.loop-v-test.false)

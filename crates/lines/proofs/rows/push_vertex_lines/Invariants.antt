@@ -8,4 +8,4 @@ use Rattle.lines.specs.Appended.{Appended}
 use Rattle.lines.proofs.rows.push_vertex_lines.Given as goal
 
 abbrev pub invariant-loop-v : goal.invariant-loop-v
-invariant-loop-v l = let m = mesh_in l.mesh in Appended l.initial.out l.out (concat_map (vertex_line m (topology m)) (take l.v (up_from 0 l.n)))
+invariant-loop-v l = let m = mesh_in l.fitting.tables in Appended l.initial.out l.out (concat_map (vertex_line m (topology m)) (take l.v (up_from 0 l.n)))
