@@ -38,8 +38,8 @@ pub valence_fits : (t : Tallies) (v : ℕ) → Spare 1 t → v < length t.ranks.
 valence_fits t v s h = omega (arith, (s.room 0 v (lit< tt) h).few)
 
 -- a sum with one more cell fits
-pub sum_fits : (t : Tallies) (v a s : ℕ) → Spare 1 t → a < 3 → v < length t.ranks.now → s < 2 ^ 41 → get_or (get_or t.totals.now v []) a 0 + s < 2 ^ 64
-sum_fits t v a s r h l k = let q = r.room a v h l in omega (arith, q.few, q.small)
+pub sum_fits : (t : Tallies) (v a s : ℕ) → Room 1 (tally_at t a v) → s < 2 ^ 41 → get_or (get_or t.totals.now v []) a 0 + s < 2 ^ 64
+sum_fits t v a s r k = omega (arith, r.few, r.small)
 
 module _ (t : Tallies) (v d : ℕ) (sums : List ℕ) (small : (a : ℕ) → a < 3 → get_or sums a 0 < 2 ^ 41) where
   abbrev rank : List ℕ

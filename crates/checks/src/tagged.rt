@@ -15,8 +15,8 @@ pub enum Stopped {
 // The memory of a table, for how many keys it has room, and how many it has.
 #[derive(Drop)]
 pub struct TaggedKeys<'a> {
-    words: &'a mut [u32],
-    room: usize,
+    pub words: &'a mut [u32],
+    pub room: usize,
     pub known: usize,
 }
 
@@ -30,7 +30,7 @@ impl<'a> TaggedKeys<'a> {
         ensures no_key { result.known ≡ 0 }
         ensures holds { Holds c result }
     {
-        let room = count::room_in(words.len(), c, 1, most);
+        let room = count::room_for(words.len(), c, 1, most);
         let size = table::size(room, c);
         table::prepare(&mut words[..size], room);
         TaggedKeys {

@@ -44,7 +44,7 @@ fn push_stored_lines(bytes: &[u8], rounds: u32, out: &mut Text)
             };
             push_mesh_lines(finished, out);
         }
-        Err(refusal) => push_refused_line(refusal, out),
+        Err(refusal) => push_refused_line(u32::from(refusal), out),
     }
 }
 
@@ -58,9 +58,9 @@ pub fn lines(input: &[u8], out: &mut [u8; 112348]) -> usize
         length: 0,
     };
     if LIMIT < input.len() {
-        push_refused_line(Refusal::ShortBuffer, &mut text);
+        push_refused_line(u32::from(Refusal::ShortBuffer), &mut text);
     } else if input.is_empty() {
-        push_refused_line(Refusal::WrongFileLength, &mut text);
+        push_refused_line(u32::from(Refusal::WrongFileLength), &mut text);
     } else {
         push_stored_lines(&input[1..], u32::from(input[0]), &mut text);
     }

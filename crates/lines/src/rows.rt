@@ -3,7 +3,6 @@ ghost use Rattle.std.specs.Prelude.{[], ◌∷◌, ◌+◌, ◌*◌, ◌/◌, �
 ghost use Rattle.rules.specs.Lists.{concat_map, cut, up_from};
 ghost use Rattle.rules.specs.Mesh.{topology};
 ghost use Rattle.rules.specs.Counts.{counts_of};
-ghost use Rattle.rules.specs.Answers.{number_of};
 ghost use Rattle.rules.specs.Listing.{mesh_line, vertex_line, cell_lines, mesh_lines, refused_line};
 ghost use Rattle.tables.specs.Lent.{mesh_in};
 ghost use Rattle.lines.specs.Appended.{Room, Appended, Printed};
@@ -13,7 +12,6 @@ ghost use Rattle.lines.specs.Fitting.{Fitting, output_size};
 use crate::kinds::Kind;
 use crate::ranks::rank_of;
 use crate::text::Text;
-use rules::Refusal;
 use tables::MeshTables;
 
 // A mesh of the listing program's sizes.
@@ -95,10 +93,10 @@ pub fn push_mesh_lines(fitting: FittingMesh, out: &mut Text)
     push_cell_lines(Kind::Point, mesh.points, out);
 }
 
-// The one line of a refusal: a word of 7 bytes, a space, 10 digits at most, a line feed.
-pub fn push_refused_line(refusal: Refusal, out: &mut Text)
+// The one line of a refusal: a word of 7 bytes, a space, 10 digits at most, a line feed. It is printed by its number, whichever that is.
+pub fn push_refused_line(number: u32, out: &mut Text)
     requires { out.old.length + 19 ≤ length out.old.buffer.now }
-    ensures { Printed out.old out.new (refused_line (number_of refusal)) }
+    ensures { Printed out.old out.new (refused_line number) }
 {
-    out.push_line(b"refused", &[u32::from(refusal)]);
+    out.push_line(b"refused", &[number]);
 }

@@ -30,7 +30,7 @@ impl Text<'_> {
     }
 
     // The digits of n: the last one behind those of a tenth of n.
-    fn push_decimal(&mut self, n: u64)
+    pub fn push_decimal(&mut self, n: u64)
         requires { Room self.old (decimal n) }
         ensures { Appended self.old self.new (decimal n) }
     {
@@ -41,16 +41,24 @@ impl Text<'_> {
         self.push_byte(digit);
     }
 
+    // A number: a minus sign below zero, and its digits.
+    pub fn push_signed(&mut self, z: i64)
+        requires { Room self.old (signed_decimal z) }
+        ensures { Appended self.old self.new (signed_decimal z) }
+    {
+        if z < 0 {
+            self.push_byte(b'-');
+        }
+        self.push_decimal(z.unsigned_abs());
+    }
+
     // A field: a number behind a space.
     pub fn push_field(&mut self, z: i64)
         requires { Room self.old (text " " ++ signed_decimal z) }
         ensures { Appended self.old self.new (text " " ++ signed_decimal z) }
     {
         self.push_byte(b' ');
-        if z < 0 {
-            self.push_byte(b'-');
-        }
-        self.push_decimal(z.unsigned_abs());
+        self.push_signed(z);
     }
 
     // A line: its first word, numbers, and the line feed.

@@ -7,15 +7,23 @@ ghost use Rattle.numbering.specs.Count.{CountOf, edge_keys};
 use crate::parts::Parts;
 use crate::{parts, table};
 
-// For how many keys of c numbers so many words have room, of which there is at least one, with `beside` more words for each key; at most
-// `most`, and at most what a table holds. What `table::size` says, the other way round.
-pub fn room_in(words: usize, c: usize, beside: usize, most: usize) -> usize
+// For how many keys so many words have room, of which there is at least one, where a key takes `size` of them and all together one more; at
+// most `most`, and at most what a table holds.
+pub fn room_in(words: usize, size: usize, most: usize) -> usize
+    requires { (0 < words) × (0 < size) }
+    ensures { (size * result + 1 ≤ words) × (result + 1 < 2 ^ 32) }
+{
+    ((words - 1) / size).min(most).min(4294967294)
+}
+
+// The same for keys of c numbers, with `beside` more words for each key: what `table::size` says, the other way round.
+pub fn room_for(words: usize, c: usize, beside: usize, most: usize) -> usize
     requires some_word { 0 < words }
     requires short { c + 2 + beside < 2 ^ 64 }
     ensures fits { words_for c result + beside * result ≤ words }
     ensures few { result + 1 < 2 ^ 32 }
 {
-    ((words - 1) / (c + 2 + beside)).min(most).min(4294967294)
+    room_in(words, c + 2 + beside, most)
 }
 
 // Makes an empty table of keys of c numbers with room for `most`, or for as many as the memory holds; the answer is its room, or `None` where
@@ -28,7 +36,7 @@ fn prepare_for(w: &mut [u32], c: usize, most: usize) -> Option<usize>
     if w.is_empty() {
         return None;
     }
-    let room = room_in(w.len(), c, 0, most);
+    let room = room_for(w.len(), c, 0, most);
     table::prepare(w, room);
     Some(room)
 }

@@ -32,4 +32,4 @@ pub returns-in-Err : goal.returns-in-Err
 returns-in-Err c =
     let r = c.in-Err.ensures in
     subst (λ (bytes : List ℕ). Printed c.args.out.now c.push_refused_line.new.out bytes)
-    (listed_refused (refining r.answer r.output) (not_zero _)) c.push_refused_line.ensures
+    (listed_refused (refining r.answer r.output) (not_zero _)) (rw c.from.ensures at c.push_refused_line.ensures)

@@ -5,8 +5,8 @@ use Rattle.lines.proofs.rows.push_refused_line.Goals as goal
 
 pub push_line-requires : goal.push_line-requires
 unfolding refused_line
-push_line-requires c = room_for_refusal c.from.result c.requires c.from.type_inv
+push_line-requires c = room_for_refusal c.args.number c.requires c.ranges.number.fits
 
 pub returns : goal.returns
 unfolding refused_line
-returns c = rw (← c.from.ensures) (record { room = room_for_refusal c.from.result c.requires c.from.type_inv; appended = c.push_line.ensures })
+returns c = record { room = room_for_refusal c.args.number c.requires c.ranges.number.fits; appended = c.push_line.ensures }

@@ -1,28 +1,10 @@
--- A space, a minus sign below zero, and the digits.
-use Rattle.std.proofs.Common.{[], ◌∷◌}
+-- A space, and the number.
 use mir.Facts.{to_z-of_z}
-use Rattle.lines.proofs.Runs.{◌then◌, room_first, room_rest}
-use Rattle.lines.proofs.Digits.{signed_below, signed_above}
+use Rattle.lines.proofs.Runs.{◌then◌, room_rest}
 use Rattle.lines.proofs.text.Text.push_field.Goals as goal
-use Rattle.lines.proofs.text.Text.push_field.Goals.{then-z-lt0, else-z-lt0}
 
-pub push_byte-requires-then-z-lt0 : goal.push_byte-requires-then-z-lt0
-push_byte-requires-then-z-lt0 c = room_first (45 ∷ []) _ (room_rest _ c.push_byte.ensures (rw (signed_below c.args.z (rw (to_z-of_z c.ranges.z) at c.if-z-lt0.true)) at c.requires))
-
-pub push_decimal-requires : goal.push_decimal-requires
-push_decimal-requires c =
-    elim c.if-z-lt0.branch [
-      | then-z-lt0 w ↦ rw (w.self-is, c.unsigned_abs.ensures.value, to_z-of_z c.ranges.z) (room_rest _ w.push_byte-then-z-lt0.ensures (room_rest _ c.push_byte.ensures (rw (signed_below c.args.z (rw (to_z-of_z c.ranges.z) at w.if-z-lt0.true)) at c.requires)))
-      | else-z-lt0 w ↦ rw (w.self-is, c.unsigned_abs.ensures.value, to_z-of_z c.ranges.z) (room_rest _ c.push_byte.ensures (rw (signed_above c.args.z (rw (to_z-of_z c.ranges.z) at w.if-z-lt0.false)) at c.requires))
-    ]
+pub push_signed-requires : goal.push_signed-requires
+push_signed-requires c = rw (to_z-of_z c.ranges.z) (room_rest _ c.push_byte.ensures c.requires)
 
 pub returns : goal.returns
-returns c =
-    elim c.if-z-lt0.branch [
-      | then-z-lt0 w ↦
-          rw (signed_below c.args.z (rw (to_z-of_z c.ranges.z) at w.if-z-lt0.true))
-          (c.push_byte.ensures then w.push_byte-then-z-lt0.ensures then (rw (w.self-is, c.unsigned_abs.ensures.value, to_z-of_z c.ranges.z) at c.push_decimal.ensures))
-      | else-z-lt0 w ↦
-          rw (signed_above c.args.z (rw (to_z-of_z c.ranges.z) at w.if-z-lt0.false))
-          (c.push_byte.ensures then (rw (w.self-is, c.unsigned_abs.ensures.value, to_z-of_z c.ranges.z) at c.push_decimal.ensures))
-    ]
+returns c = c.push_byte.ensures then (rw (to_z-of_z c.ranges.z) at c.push_signed.ensures)
