@@ -30,8 +30,8 @@ impl<'a> TaggedKeys<'a> {
         ensures no_key { result.known ≡ 0 }
         ensures holds { Holds c result }
     {
-        let room = count::room_in(words.len(), c + 3, most);
-        let size = room + 1 + (c + 1) * room;
+        let room = count::room_in(words.len(), c, 1, most);
+        let size = table::size(room, c);
         table::prepare(&mut words[..size], room);
         TaggedKeys {
             words,
@@ -46,7 +46,7 @@ impl<'a> TaggedKeys<'a> {
         ensures same_table { SameTable self.old self.new }
         ensures met { KeyMet C self.old self.new key.entry tag result }
     {
-        let size = self.room + 1 + (C + 1) * self.room;
+        let size = table::size(self.room, C);
         let words = &mut *self.words;
         let Some(met) = table::meet(&mut words[..size], self.room, self.known, &key) else {
             return Err(Stopped::Full);

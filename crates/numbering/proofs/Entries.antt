@@ -72,19 +72,21 @@ module _ {c : ℕ} {w : List ℕ} {room n : ℕ} (t : Table c w room n) (k : Key
   unfolding head_at
   walk_start s x p q = rw (q, p) (start t.chains k (slot_below room k))
 
-  module _ (x e : ℕ) (u : x ≡ e + 1) (v : Walk c w room n k x) where
+  -- at the entry e, which starts at `at`
+  module _ (x e at : ℕ) (u : x ≡ e + 1) (p : at ≡ place c room e) (v : Walk c w room n k x) where
     -- past an entry with another key the walk goes on to an older one
-    pub walk_on : (run w (place c room e + 1) c ≡ k → ⊥) → Walk c w room n k (get_or w (place c room e) 0) × (get_or w (place c room e) 0 < x)
+    pub walk_on : (run w (at + 1) c ≡ k → ⊥) → Walk c w room n k (get_or w at 0) × (get_or w at 0 < x)
     unfolding entry_key next_at
     walk_on other =
         let x-is : x ≡ suc e = u ∙ add-one e in
-        (step t.chains k e (rw x-is at v) other, omega (arith, step_less t.chains k e (omega (arith, v.within))))
+        let past = λ (h : run w (place c room e + 1) c ≡ k). other (rw p h) in
+        rw p (step t.chains k e (rw x-is at v) past, omega (arith, step_less t.chains k e (omega (arith, v.within))))
 
     -- an entry with the key: its place
-    pub walk_hit : run w (place c room e + 1) c ≡ k → Found (keys c w room n) k (Some e)
+    pub walk_hit : run w (at + 1) c ≡ k → Found (keys c w room n) k (Some e)
     unfolding entry_key keys
     walk_hit h =
-        (sym (found t.chains k e (omega (arith, v.within)) h), omega (arith, v.within, length_firsts (entry_key c w room) n))
+        (sym (found t.chains k e (omega (arith, v.within)) (rw p at h)), omega (arith, v.within, length_firsts (entry_key c w room) n))
 
   -- the chain's end: the key is not there
   pub walk_end : (x : ℕ) → x ≡ 0 → Walk c w room n k x → Found (keys c w room n) k None

@@ -1,18 +1,12 @@
--- The keys that the passes meet are those of the rules: the edges, the faces and the corner sets of a mesh. Assumes nothing.
-use mathlib.Core.Path.{◌≡◌, refl, sym, ap, ◌∙◌}
+-- The keys that the passes meet are those of the rules: the edges and the faces of a mesh. Assumes nothing.
+use mathlib.Core.Path.{◌≡◌, refl, ap, ◌∙◌}
 use mathlib.Core.List.{List, [], ◌∷◌, ◌++◌, map, map-map, map-append, append-nil}
 use Prim.Native.Nat.{ℕ}
-use lib.ListN.{length, get_or}
-use Rattle.rules.specs.Lists.{concat_map, up_from, cut, Key, key_of, distinct}
-use Rattle.rules.specs.Mesh.{Kind, hex, quad, segment, point, corners, Mesh, Topology, topology, cells_of, singles, whole, by_dimension, places}
+use Rattle.rules.specs.Lists.{concat_map, Key, key_of, distinct}
+use Rattle.rules.specs.Mesh.{Kind, hex, quad, segment, point, Mesh, Topology, topology, cells_of, by_dimension, places}
 use Rattle.rules.specs.Split.{corners_at, key_at, met, distinct_parts, edges, faces}
-use Rattle.lists.proofs.Membership.{map_same}
-use Rattle.lists.proofs.Tables.{length_entry}
-use Rattle.numbering.specs.declared.parts.Parts.{Parts}
-use Rattle.numbering.specs.declared.parts.Parts.TheVariants.{Hexes, Quads, Segments, Points}
-use Rattle.numbering.specs.Parts.{kind_of, cell_corners, places_of, part_keys, table_keys}
+use Rattle.numbering.specs.Parts.{part_keys, table_keys}
 use Rattle.numbering.specs.Count.{edge_keys, face_keys}
-use Rattle.numbering.proofs.Firsts.{firsts_get_or}
 
 module _ (ps : List (List ℕ)) where
   -- the keys of the parts, cell by cell
@@ -57,41 +51,3 @@ faces_are m =
     (keys_by_kind t 2
     ∙ ap (λ (r : List Key). keys_of t 2 hex ++ r)
     (ap (λ (r : List Key). keys_of t 2 quad ++ r) (ap (λ (r : List Key). r ++ keys_of t 2 point) (keys_none t.segments) ∙ keys_none t.points) ∙ append-nil (keys_of t 2 quad)))
-
--- ---- cells by themselves
-
--- the key of a whole cell
-key_whole : (cell : List ℕ) (κ : Kind) → length cell ≡ corners κ → key_at cell (whole κ) ≡ key_of cell
-unfolding key_at corners_at whole
-key_whole cell κ e = ap key_of (ap (λ (n : ℕ). map (λ (j : ℕ). get_or cell j 0) (up_from 0 n)) (sym e) ∙ firsts_get_or cell 0)
-
-module _ {A B : Type 0} where
-  concat_map_one : (f : A → B) (xs : List A) → concat_map (λ (x : A). f x ∷ []) xs ≡ map f xs
-  unfolding concat_map
-  concat_map_one f [] = refl
-  concat_map_one f (x ∷ xs) = ap (λ (l : List B). f x ∷ l) (concat_map_one f xs)
-
--- parts that are whole cells: their keys are the corner sets of the cells
-cells_whole : (parts : Parts) → places_of parts ≡ whole (kind_of parts) ∷ [] → (cells : List ℕ) → table_keys parts cells ≡ map key_of (cut (cell_corners parts) cells)
-unfolding table_keys part_keys
-cells_whole parts e cells =
-    let cs = cut (cell_corners parts) cells in
-    ap (λ (ps : List (List ℕ)). concat_map (λ (cell : List ℕ). map (key_at cell) ps) cs) e
-    ∙ concat_map_one (λ (cell : List ℕ). key_at cell (whole (kind_of parts))) cs
-    ∙ map_same (λ (cell : List ℕ). key_at cell (whole (kind_of parts))) key_of cs (λ cell i. key_whole cell (kind_of parts) (length_entry (cell_corners parts) cells cell i))
-
-pub hexes_are : (hexes : List ℕ) → table_keys Hexes hexes ≡ map key_of (cut 8 hexes)
-unfolding places by_dimension
-hexes_are hexes = cells_whole Hexes refl hexes
-
-pub quads_are : (quads : List ℕ) → table_keys Quads quads ≡ map key_of (cut 4 quads)
-unfolding places by_dimension
-quads_are quads = cells_whole Quads refl quads
-
-pub segments_are : (segments : List ℕ) → table_keys Segments segments ≡ map key_of (cut 2 segments)
-unfolding places by_dimension
-segments_are segments = cells_whole Segments refl segments
-
-pub points_are : (points : List ℕ) → table_keys Points points ≡ map key_of (cut 1 points)
-unfolding places by_dimension singles whole up_from
-points_are points = cells_whole Points refl points

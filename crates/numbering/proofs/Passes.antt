@@ -7,7 +7,7 @@ use Rattle.std.proofs.lemmas.Nat.{le-div}
 use native.Mathlib.Numerals.{add-one}
 use native.Mathlib.Omega.{arith}
 use lib.ListN.{length, get_or, set, take, drop, length-append, length-drop, length-map, take-append-drop}
-use lib.Seq.{split_at, length-take-le, take_all, take_at, drop_at, drop-drop, take-suc}
+use lib.Seq.{split_at, take_all, take_at, drop_at, drop-drop, take-suc}
 use Rattle.rules.specs.Lists.{concat_map, cut, up_from, Key, index_of, meet, meet_all, distinct}
 use Rattle.lists.specs.Membership.{In}
 use Rattle.lists.proofs.Membership.{get_or_map}
@@ -46,10 +46,6 @@ pub entry_is : (k i : ℕ) (xs : List ℕ) → i < length xs / k → take (k * i
 entry_is k i xs l =
     let e : k * i + k - k * i ≡ k = omega arith in
     ap (λ (n : ℕ). take n (drop (k * i) xs)) e ∙ sym (cut_entry k i xs [] l)
-
-pub entry_length : (k i : ℕ) (xs : List ℕ) → i < length xs / k → length (take (k * i + k - k * i) (drop (k * i) xs)) ≡ k
-entry_length k i xs l =
-    length-take-le (k * i + k - k * i) (drop (k * i) xs) (omega (arith, length-drop (k * i) xs, entry_end k i xs l)) ∙ omega arith
 
 -- cell x is lent, and `more` is left, of a table whose first i cells were lent before
 module _ (k i : ℕ) (xs rest : List ℕ) (some : 0 < k) (left : rest ≡ drop (k * i) xs) where

@@ -1,12 +1,12 @@
 -- The places of the parts' corners: as many as a part has corners, each below the cell's count. Assumes nothing.
-use mathlib.Core.Path.{◌≡◌, sym, ap, ◌∙◌}
+use mathlib.Core.Path.{◌≡◌, refl, sym, ap, ◌∙◌}
 use mathlib.Core.Logic.{◌⊎◌, inl, inr}
 use mathlib.Core.List.{List, [], ◌∷◌, map}
 use Prim.Native.Nat.{ℕ, zero, suc, ◌*◌, ◌/◌, ◌%◌, ◌≤◌, ◌<◌}
 use native.Mathlib.Nat.{zero-add, not-suc-le-zero, one-le-pow, mul-div-le, mul-div_cancel_left, mul-le-mul_left}
 use native.Mathlib.Omega.{arith}
-use lib.ListN.{length, get_or, take, length-map}
-use Rattle.rules.specs.Lists.{concat, concat_map, up_from, cut}
+use lib.ListN.{length, get_or, take, replicate, length-map}
+use Rattle.rules.specs.Lists.{concat, concat_map, overwritten, up_from, cut}
 use Rattle.rules.specs.Mesh.{Kind, hex, quad, segment, point, corners, singles, whole, by_dimension, places, place_of}
 use Rattle.rules.specs.Split.{key_at}
 use Rattle.lists.specs.Membership.{In}
@@ -70,38 +70,6 @@ parts_by_corners Segments = omega arith
 parts_by_corners SegmentFaces = omega arith
 parts_by_corners Points = omega arith
 
--- a part has at most 8 corners
-pub small_parts : (parts : Parts) → part_corners parts ≤ 8
-small_parts HexEdges = omega arith
-small_parts HexFaces = omega arith
-small_parts Hexes = omega arith
-small_parts QuadEdges = omega arith
-small_parts Quads = omega arith
-small_parts Segments = omega arith
-small_parts SegmentFaces = omega arith
-small_parts Points = omega arith
-
--- a cell has corners, at most 8
-pub few_corners : (parts : Parts) → cell_corners parts ≤ 8
-few_corners HexEdges = omega arith
-few_corners HexFaces = omega arith
-few_corners Hexes = omega arith
-few_corners QuadEdges = omega arith
-few_corners Quads = omega arith
-few_corners Segments = omega arith
-few_corners SegmentFaces = omega arith
-few_corners Points = omega arith
-
-pub some_corners : (parts : Parts) → 0 < cell_corners parts
-some_corners HexEdges = omega arith
-some_corners HexFaces = omega arith
-some_corners Hexes = omega arith
-some_corners QuadEdges = omega arith
-some_corners Quads = omega arith
-some_corners Segments = omega arith
-some_corners SegmentFaces = omega arith
-some_corners Points = omega arith
-
 pub length_part_keys : (parts : Parts) (cell : List ℕ) → length (part_keys parts cell) ≡ length (places_of parts)
 unfolding part_keys
 length_part_keys parts cell = length-map (places_of parts) (key_at cell)
@@ -151,6 +119,18 @@ few_listed Quads = omega arith
 few_listed Segments = omega arith
 few_listed SegmentFaces = omega arith
 few_listed Points = omega arith
+
+-- a cell by itself has its corners in order
+pub itself_listed : (p : Parts) → (p ≡ HexEdges → ⊥) → (p ≡ HexFaces → ⊥) → (p ≡ QuadEdges → ⊥) → take (length (places_listed p)) (overwritten (replicate 24 0) (0 ∷ 1 ∷ 2 ∷ 3 ∷ 4 ∷ 5 ∷ 6 ∷ 7 ∷ [])) ≡ places_listed p
+unfolding places_listed places by_dimension singles whole up_from concat overwritten
+itself_listed HexEdges h i j = absurd (h refl)
+itself_listed HexFaces h i j = absurd (i refl)
+itself_listed QuadEdges h i j = absurd (j refl)
+itself_listed Hexes h i j = refl
+itself_listed Quads h i j = refl
+itself_listed Segments h i j = refl
+itself_listed SegmentFaces h i j = refl
+itself_listed Points h i j = refl
 
 -- place i of the list, by its part and corner
 module _ (parts : Parts) (i : ℕ) (l : i < length (places_listed parts)) where

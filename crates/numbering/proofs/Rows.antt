@@ -1,13 +1,14 @@
 -- Rows of one length, listed one behind the other: what stands where, and what is read at their places. Assumes nothing.
-use mathlib.Core.Path.{◌≡◌, sym, ap, ◌∙◌}
+use mathlib.Core.Path.{◌≡◌, refl, sym, ap, ◌∙◌}
 use mathlib.Core.List.{List, [], ◌∷◌, ◌++◌, map-append}
 use Prim.Native.Nat.{ℕ, ◌+◌, ◌*◌, ◌/◌, ◌%◌, ◌-◌, ◌<◌}
 use native.Mathlib.Nat.{mod-lt, div-add-mod, div-lt_iff_lt-mul, mul-div_cancel_left}
 use native.Mathlib.Omega.{arith}
 use lib.ListN.{length, get_or, take, drop, length-map}
 use native.Mathlib.Numerals.{add-one}
-use lib.Seq.{take-suc}
-use Rattle.rules.specs.Lists.{concat, cut}
+use lib.Seq.{take_at, take-suc}
+use Rattle.std.specs.List.{flat_map}
+use Rattle.rules.specs.Lists.{concat, cut, overwritten}
 use Rattle.rules.specs.Mesh.{place_of}
 use Rattle.rules.specs.Split.{corners_at, key_at}
 use Rattle.lists.specs.Membership.{In}
@@ -57,3 +58,14 @@ unfolding corners_at
 read_more from places i l =
     let f : ℕ → ℕ = λ q. get_or from q 0 in
     sym (rw (add-one i, take-suc places i 0 l) (map-append f (take i places) (get_or places i 0 ∷ [])))
+
+-- ---- rows that are stored at the front of an array
+
+flattened : (rows : List (List ℕ)) → flat_map (λ row. row) rows ≡ concat rows
+unfolding concat
+flattened [] = refl
+flattened (row ∷ rows) = ap (λ (r : List ℕ). row ++ r) (flattened rows)
+
+pub front_listed : (rows listed : List (List ℕ)) (old : List ℕ) → rows ≡ listed → take (length (concat listed)) (overwritten old (flat_map (λ row. row) rows)) ≡ concat listed
+unfolding overwritten
+front_listed rows listed old e = rw (flattened rows, e) (take_at (concat listed) (drop (length (concat listed)) old) (length (concat listed)) refl)

@@ -1,19 +1,21 @@
 // How many distinct edges and corner sets there are, with whatever memory is lent.
 ghost use Rattle.std.specs.Prelude.{◌≡◌, ◌+◌, ◌*◌, ◌^◌, ◌≤◌, ◌<◌, length, MatchOption};
-ghost use Rattle.numbering.specs.Table.{Table};
+ghost use Rattle.numbering.specs.Table.{words_for, Table};
 ghost use Rattle.numbering.specs.Parts.{part_corners, table_keys};
 ghost use Rattle.numbering.specs.Count.{CountOf, edge_keys};
 
 use crate::parts::Parts;
 use crate::{parts, table};
 
-// For how many keys so many words have room, of which there is at least one, where a key takes `size` of them and all together one more; at
-// most `most`, and at most what a table holds.
-pub fn room_in(words: usize, size: usize, most: usize) -> usize
-    requires { (0 < words) × (0 < size) }
-    ensures { (size * result + 1 ≤ words) × (result + 1 < 2 ^ 32) }
+// For how many keys of c numbers so many words have room, of which there is at least one, with `beside` more words for each key; at most
+// `most`, and at most what a table holds. What `table::size` says, the other way round.
+pub fn room_in(words: usize, c: usize, beside: usize, most: usize) -> usize
+    requires some_word { 0 < words }
+    requires short { c + 2 + beside < 2 ^ 64 }
+    ensures fits { words_for c result + beside * result ≤ words }
+    ensures few { result + 1 < 2 ^ 32 }
 {
-    ((words - 1) / size).min(most).min(4294967294)
+    ((words - 1) / (c + 2 + beside)).min(most).min(4294967294)
 }
 
 // Makes an empty table of keys of c numbers with room for `most`, or for as many as the memory holds; the answer is its room, or `None` where
@@ -26,7 +28,7 @@ fn prepare_for(w: &mut [u32], c: usize, most: usize) -> Option<usize>
     if w.is_empty() {
         return None;
     }
-    let room = room_in(w.len(), c + 2, most);
+    let room = room_in(w.len(), c, 0, most);
     table::prepare(w, room);
     Some(room)
 }

@@ -1,6 +1,6 @@
 // The parts of cells, met in the order of rule 2.2 of docs/SPECIFICATION.md: cell after cell, part after part.
-ghost use Rattle.std.specs.Prelude.{◌≡◌, ◌+◌, ◌/◌, ◌^◌, ◌≤◌, ◌<◌, length, take};
-ghost use Rattle.rules.specs.Lists.{concat_map, cut};
+ghost use Rattle.std.specs.Prelude.{◌≡◌, ◌+◌, ◌/◌, ◌^◌, ◌≤◌, ◌<◌, length, replicate, take};
+ghost use Rattle.rules.specs.Lists.{concat_map, cut, overwritten};
 ghost use Rattle.rules.specs.Mesh.{place_of};
 ghost use Rattle.rules.specs.Split.{corners_at, key_at};
 ghost use Rattle.numbering.specs.Table.{Table};
@@ -9,6 +9,16 @@ ghost use Rattle.numbering.specs.Parts.{places_of, part_corners, cell_corners, t
 
 use crate::{keys, table};
 use rules::tables::{HEX_EDGES, HEX_FACES, QUAD_EDGES, entry};
+
+// An array with this list at its front, and zeros behind it.
+pub fn at_front<const N: usize>(list: &[u8]) -> [u8; N]
+    requires { length list.now ≤ N }
+    ensures { result ≡ overwritten (replicate N 0) list.now }
+{
+    let mut array = [0u8; N];
+    memory::copy(list, &mut array);
+    array
+}
 
 // The parts of one dimension of one kind of cells. A cell by itself is one part; a segment has no face.
 #[derive(Clone, Copy)]
@@ -74,19 +84,17 @@ impl Parts {
         }
     }
 
-    // The places of the corners of a cell's parts, c for each part, part after part; zeros behind them, as there is no heap and the most are
-    // 24. They are listed once for a whole table of cells: what is done for each cell then reads them in a row.
-    #[tactic(auto, using(crate::proofs::Places::few_listed, crate::proofs::Places::length_listed))]
-    pub fn listed(self, c: usize) -> [u8; 24]
-        requires { c ≡ part_corners self }
+    // The places of the corners of a cell's parts, part after part, and zeros behind them: there is no heap, and the most are 24. They are
+    // listed once for a whole table of cells: what is done for each cell then reads them in a row. A cell by itself has its corners in order.
+    pub fn listed(self) -> [u8; 24]
         ensures { take (length (places_listed self)) result ≡ places_listed self }
     {
-        let mut places = [0u8; 24];
-        let count = c * self.count();
-        for i in 0..count {
-            places[i] = self.place(i / c, i % c) as u8;
+        match self {
+            Parts::HexEdges => at_front(HEX_EDGES.as_flattened()),
+            Parts::HexFaces => at_front(HEX_FACES.as_flattened()),
+            Parts::QuadEdges => at_front(QUAD_EDGES.as_flattened()),
+            _ => at_front(&[0, 1, 2, 3, 4, 5, 6, 7]),
         }
-        places
     }
 }
 
@@ -96,6 +104,7 @@ pub fn load(places: &[u8], from: &[u32], to: &mut [u32])
     requires within { Within (length from.now) places.now }
     ensures { to.new ≡ corners_at from.now places.now }
 {
+    // By number: a proof knows nothing of what was written through `iter_mut` in a `zip`.
     for (i, place) in places.iter().enumerate() {
         to[i] = from[usize::from(*place)];
     }
@@ -182,6 +191,7 @@ fn meet_cells<const C: usize>(
 }
 
 // Meets these parts of all cells of a flat table, of C corners each.
+#[tactic(auto, using(crate::proofs::Places::list_size, crate::proofs::Places::few_listed))]
 pub fn meet_table<const C: usize>(
     w: &mut [u32],
     room: usize,
@@ -193,7 +203,7 @@ pub fn meet_table<const C: usize>(
     requires corners { C ≡ part_corners parts }
     ensures { Tallied C w.old w.new room n (table_keys parts cells.now) result }
 {
-    let places = parts.listed(C);
+    let places = parts.listed();
     let end = C * parts.count();
     meet_cells::<C>(w, room, n, &places[..end], cells, parts.cell_corners())
 }

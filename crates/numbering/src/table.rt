@@ -4,7 +4,7 @@
 ghost use Rattle.std.specs.Prelude.{◌≡◌, ◌↔◌, IsTrue, ◌+◌, ◌^◌, ◌≤◌, ◌<◌, length, replicate};
 ghost use Rattle.std.proofs.lemmas.List.Edits.{sets};
 ghost use Rattle.rules.specs.Lists.{index_of, overwritten};
-ghost use Rattle.numbering.specs.Table.{run, slot_of, keys, Table, Met};
+ghost use Rattle.numbering.specs.Table.{run, slot_of, place, words_for, keys, Table, Met};
 ghost use Rattle.numbering.specs.Meeting.{Found, Answered};
 
 // What meeting a key answers: the key's number, and how many keys there are then.
@@ -12,6 +12,24 @@ ghost use Rattle.numbering.specs.Meeting.{Found, Answered};
 pub struct MetKey {
     pub number: usize,
     pub known: usize,
+}
+
+// Where the entry of this number starts, where keys have c numbers: behind the heads of all slots and the entries before it.
+pub fn place(room: usize, c: usize, number: usize) -> usize
+    requires fits { place c room number < 2 ^ 64 }
+    requires short { c + 1 < 2 ^ 64 }
+    ensures { result ≡ place c room number }
+{
+    room + 1 + (c + 1) * number
+}
+
+// How many words a table takes that has room for so many keys of c numbers.
+pub fn size(room: usize, c: usize) -> usize
+    requires fits { words_for c room < 2 ^ 64 }
+    requires short { c + 1 < 2 ^ 64 }
+    ensures { result ≡ words_for c room }
+{
+    place(room, c, room)
 }
 
 // Makes a table of no key, whatever the slice held.
@@ -57,13 +75,11 @@ fn find(w: &[u32], room: usize, n: usize, s: usize, key: &[u32]) -> Option<usize
     requires s_value { s ≡ slot_of room key.now }
     ensures { Found (keys (length key.now) w.now room n) key.now result }
 {
-    let size = key.len() + 1;
-    let entries = room + 1;
     let mut link = w[s] as usize;
     // A test against 0: an `Option` of what is one less takes three instructions more at each link.
     while 0 < link {
         let number = link - 1;
-        let at = entries + size * number;
+        let at = place(room, key.len(), number);
         if is_at(w, at + 1, key) {
             return Some(number);
         }
@@ -91,8 +107,7 @@ fn enter(w: &mut [u32], room: usize, n: usize, s: usize, key: &[u32])
     requires n_bound { n ≤ index_of key.now (keys (length key.now) w.old room n) }
     ensures { Met (length key.now) w.old w.new room n key.now n (n + 1) }
 {
-    let size = key.len() + 1;
-    let at = room + 1 + size * n;
+    let at = place(room, key.len(), n);
     w[at] = w[s];
     put(w, at + 1, key);
     w[s] = (n + 1) as u32;

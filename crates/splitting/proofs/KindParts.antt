@@ -1,18 +1,17 @@
 -- The parts of each kind of cells, as the numbering has them. Assumes nothing.
 use mathlib.Core.Path.{◌≡◌, refl}
 use mathlib.Core.List.{List}
-use Prim.Native.Nat.{ℕ, ◌+◌, ◌/◌, ◌≤◌, ◌<◌}
+use Prim.Native.Nat.{ℕ, ◌+◌, ◌*◌, ◌/◌, ◌≤◌, ◌<◌}
 use native.Mathlib.Omega.{arith}
 use lib.ListN.{length, length-append, length-map}
 use Rattle.rules.specs.Lists.{concat, up_from, Key, index_of}
 use Rattle.rules.specs.Mesh.{singles, by_dimension, places, cell_parts}
 use Rattle.numbering.specs.Parts.{places_of, part_corners, cell_corners, part_keys, Within, listed_keys}
-use Rattle.numbering.proofs.Places.{length_part_keys, listed_within, sized_count, sized_keys}
+use Rattle.numbering.proofs.Places.{length_part_keys, list_size, few_listed, listed_within, sized_count, sized_keys}
 use Rattle.splitting.specs.declared.kinds.CellKind.{CellKind}
 use Rattle.splitting.specs.declared.kinds.CellKind.TheVariants.{Hex, Quad, Segment}
 use Rattle.splitting.specs.Kinds.{kind_of, corner_count, edges_of, faces_of}
-use Rattle.splitting.specs.declared.cells.Lists.{Lists}
-use Rattle.splitting.specs.Lists.{Listed}
+use Rattle.splitting.specs.declared.given.Setting.{Setting}
 use Rattle.splitting.specs.Cells.{cell_numbers}
 
 pub edge_corners : (kind : CellKind) → 2 ≡ part_corners (edges_of kind)
@@ -44,6 +43,13 @@ pub face_places : (kind : CellKind) → places_of (faces_of kind) ≡ places (ki
 face_places Hex = refl
 face_places Quad = refl
 face_places Segment = refl
+
+-- the lists of their corners' places have room in an array of 24
+pub edges_short : (kind : CellKind) → 2 * length (places_of (edges_of kind)) ≤ 24
+edges_short kind = omega (arith, list_size (edges_of kind) 2 _ (edge_corners kind) refl, few_listed (edges_of kind))
+
+pub faces_short : (kind : CellKind) → 4 * length (places_of (faces_of kind)) ≤ 24
+faces_short kind = omega (arith, list_size (faces_of kind) 4 _ (face_corners kind) refl, few_listed (faces_of kind))
 
 -- the numbers of a cell's fine vertices are at most 27
 pub numbers_fit : (kind : CellKind) → corner_count kind + length (places_of (edges_of kind)) + length (places_of (faces_of kind)) + 1 ≤ 27
@@ -78,26 +84,26 @@ some_corners Segment = omega arith
 
 -- ---- the lists that are lent
 
-module _ {lists : Lists} (h : Listed lists) where
-  pub edges_listed : (cell : List ℕ) → listed_keys 2 lists.edges.now cell ≡ part_keys (edges_of lists.kind) cell
-  edges_listed cell = rw h.edges_are (sized_keys (edges_of lists.kind) 2 (edge_corners lists.kind) cell)
+module _ (s : Setting) where
+  pub edges_listed : (cell : List ℕ) → listed_keys 2 s.edges.now cell ≡ part_keys (edges_of s.kind) cell
+  edges_listed cell = rw s.edges_are (sized_keys (edges_of s.kind) 2 (edge_corners s.kind) cell)
 
-  pub faces_listed : (cell : List ℕ) → listed_keys 4 lists.faces.now cell ≡ part_keys (faces_of lists.kind) cell
-  faces_listed cell = rw h.faces_are (sized_keys (faces_of lists.kind) 4 (face_corners lists.kind) cell)
+  pub faces_listed : (cell : List ℕ) → listed_keys 4 s.faces.now cell ≡ part_keys (faces_of s.kind) cell
+  faces_listed cell = rw s.faces_are (sized_keys (faces_of s.kind) 4 (face_corners s.kind) cell)
 
-  pub edges_counted : length lists.edges.now / 2 ≡ length (places_of (edges_of lists.kind))
-  edges_counted = rw h.edges_are (sized_count (edges_of lists.kind) 2 (edge_corners lists.kind))
+  pub edges_counted : length s.edges.now / 2 ≡ length (places_of (edges_of s.kind))
+  edges_counted = rw s.edges_are (sized_count (edges_of s.kind) 2 (edge_corners s.kind))
 
-  pub faces_counted : length lists.faces.now / 4 ≡ length (places_of (faces_of lists.kind))
-  faces_counted = rw h.faces_are (sized_count (faces_of lists.kind) 4 (face_corners lists.kind))
+  pub faces_counted : length s.faces.now / 4 ≡ length (places_of (faces_of s.kind))
+  faces_counted = rw s.faces_are (sized_count (faces_of s.kind) 4 (face_corners s.kind))
 
-  module _ (cell : List ℕ) (e : length cell ≡ corner_count lists.kind) where
-    pub edges_within : Within (length cell) lists.edges.now
-    edges_within = rw (h.edges_are, e, ← edge_cell lists.kind) (listed_within (edges_of lists.kind))
+  module _ (cell : List ℕ) (e : length cell ≡ corner_count s.kind) where
+    pub edges_within : Within (length cell) s.edges.now
+    edges_within = rw (s.edges_are, e, ← edge_cell s.kind) (listed_within (edges_of s.kind))
 
-    pub faces_within : Within (length cell) lists.faces.now
-    faces_within = rw (h.faces_are, e, ← face_cell lists.kind) (listed_within (faces_of lists.kind))
+    pub faces_within : Within (length cell) s.faces.now
+    faces_within = rw (s.faces_are, e, ← face_cell s.kind) (listed_within (faces_of s.kind))
 
     -- the numbers of the cell's fine vertices are few
-    pub few_fine : length cell + length lists.edges.now / 2 + length lists.faces.now / 4 + 1 ≤ 27
-    few_fine = omega (arith, numbers_fit lists.kind, e, edges_counted, faces_counted)
+    pub few_fine : length cell + length s.edges.now / 2 + length s.faces.now / 4 + 1 ≤ 27
+    few_fine = omega (arith, numbers_fit s.kind, e, edges_counted, faces_counted)

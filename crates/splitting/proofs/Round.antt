@@ -9,25 +9,23 @@ use Rattle.rules.specs.Mesh.{Mesh, Topology, topology, by_dimension, places}
 use Rattle.rules.specs.Split.{edges, faces, split}
 use Rattle.lists.proofs.Distinct.{meet_all_append}
 use Rattle.soundness.specs.Numbers.{start}
-use Rattle.numbering.specs.Table.{keys, Table, MetAll}
+use Rattle.numbering.specs.Table.{keys, MetAll}
 use Rattle.numbering.specs.Parts.{part_keys, table_keys}
 use Rattle.numbering.specs.Count.{edge_keys, face_keys}
 use Rattle.numbering.proofs.MeshKeys.{edges_are, faces_are}
 use Rattle.numbering.proofs.Passes.{met_append, length_later}
 use Rattle.splitting.specs.declared.kinds.CellKind.{CellKind}
 use Rattle.splitting.specs.declared.kinds.CellKind.TheVariants.{Hex, Quad, Segment}
-use Rattle.splitting.specs.declared.cells.Base.{Base}
-use Rattle.splitting.specs.declared.cells.Known.{Known}
+use Rattle.splitting.specs.declared.given.Base.{Base}
+use Rattle.splitting.specs.declared.cells.PartTables.{PartTables}
+use Rattle.splitting.specs.Kinds.{corner_count}
 use Rattle.splitting.specs.Cells.{cells_in, edges_met, faces_met, first_children}
-use Rattle.splitting.specs.Words.{edges_in, faces_in, Room, BothMet, TableSplit}
+use Rattle.splitting.specs.Words.{edges_in, faces_in, NoneMet, Room, BothMet, TableSplit}
 use Rattle.splitting.specs.Ready.{Ready}
 use Rattle.splitting.proofs.Fine.{hexes_split, quads_split, segments_split}
 
 abbrev pub base_of : Mesh → ℕ → ℕ → Base
 base_of m e f = record { vertices = length m.vertices / 3; edges = e; faces = f }
-
-abbrev pub none_met : Known
-none_met = record { edges = 0; faces = 0 }
 
 -- ---- all edges and faces, table by table
 
@@ -86,48 +84,49 @@ module _ {m : Mesh} {e f words : ℕ} (r : Ready m e f words) where
 
   -- what a call stores, once it is known that its edges and faces are those of the mesh
   children_stored :
-      (kind : CellKind) (cells : List ℕ) (own n : ℕ) (ew fw : List ℕ) (known : Known) (es fs : List Key) (old new : List ℕ) →
-      meet_all (edges_in base ew known) (edges_met kind (cells_in kind cells) ++ es) ≡ edges t →
-      meet_all (faces_in base fw known) (faces_met kind (cells_in kind cells) ++ fs) ≡ faces t →
-      TableSplit base ew fw known kind cells own n old new →
-      new ≡ overwritten old (first_children kind t.vertex_count (edges t) (t.vertex_count + length (edges t)) (faces t) own cells n)
+      (kind : CellKind) (cells : List ℕ) (own : ℕ) (p : PartTables) (es fs : List Key) (old new : List ℕ) →
+      meet_all (edges_in base p) (edges_met kind (cells_in kind cells) ++ es) ≡ edges t →
+      meet_all (faces_in base p) (faces_met kind (cells_in kind cells) ++ fs) ≡ faces t →
+      TableSplit base p kind cells own old new →
+      new ≡ overwritten old (first_children kind t.vertex_count (edges t) (t.vertex_count + length (edges t)) (faces t) own cells (length cells / corner_count kind))
   unfolding topology
-  children_stored kind cells own n ew fw known es fs old new a b s = rw (a, b, r.edges_are) at (s es fs)
+  children_stored kind cells own p es fs old new a b s = rw (a, b, r.edges_are) at (s es fs)
 
-  module _ (ew fw : List ℕ) where
-    edges_met_lem : meet_all (edges_in base ew none_met) (hex_edges m ++ (quad_edges m ++ segment_edges m)) ≡ edges t
+  -- the tables as they begin
+  module _ {p : PartTables} (z : NoneMet base p) where
+    edges_met_lem : meet_all (edges_in base p) (hex_edges m ++ (quad_edges m ++ segment_edges m)) ≡ edges t
     unfolding keys up_from
-    edges_met_lem = all_edges m
+    edges_met_lem = rw z.no_edge (all_edges m)
 
-    faces_met_lem : meet_all (faces_in base fw none_met) (hex_faces m ++ (quad_faces m ++ segment_faces m)) ≡ faces t
+    faces_met_lem : meet_all (faces_in base p) (hex_faces m ++ (quad_faces m ++ segment_faces m)) ≡ faces t
     unfolding keys up_from
-    faces_met_lem = all_faces m
+    faces_met_lem = rw z.no_face (all_faces m)
 
-    edges_fit : length (meet_all (edges_in base ew none_met) (hex_edges m ++ (quad_edges m ++ segment_edges m))) ≤ e
+    edges_fit : length (meet_all (edges_in base p) (hex_edges m ++ (quad_edges m ++ segment_edges m))) ≤ e
     edges_fit = omega (arith, ap length edges_met_lem, r.edges_are)
 
-    faces_fit : length (meet_all (faces_in base fw none_met) (hex_faces m ++ (quad_faces m ++ segment_faces m))) ≤ f
+    faces_fit : length (meet_all (faces_in base p) (hex_faces m ++ (quad_faces m ++ segment_faces m))) ≤ f
     faces_fit = omega (arith, ap length faces_met_lem, r.faces_are)
 
     -- the hexes
-    pub room_hexes : Table 2 ew e 0 → Table 4 fw f 0 → Room base ew fw none_met (hex_edges m) (hex_faces m)
-    room_hexes te tf = record {
-      edge_table = te;
-      face_table = tf;
-      edges_fit = omega (arith, edges_fit, length_later (edges_in base ew none_met) (hex_edges m) (quad_edges m ++ segment_edges m));
-      faces_fit = omega (arith, faces_fit, length_later (faces_in base fw none_met) (hex_faces m) (quad_faces m ++ segment_faces m));
+    pub room_hexes : Room base p (hex_edges m) (hex_faces m)
+    room_hexes = record {
+      edge_table = rw z.no_edge z.edge_table;
+      face_table = rw z.no_face z.face_table;
+      edges_fit = omega (arith, edges_fit, length_later (edges_in base p) (hex_edges m) (quad_edges m ++ segment_edges m));
+      faces_fit = omega (arith, faces_fit, length_later (faces_in base p) (hex_faces m) (quad_faces m ++ segment_faces m));
     }
 
-    pub stored_hexes : (old new : List ℕ) → TableSplit base ew fw none_met Hex m.hexes (length m.vertices / 3 + (e + f)) (length m.hexes / 8) old new → new ≡ overwritten old (concat (split t).hexes)
+    pub stored_hexes : (old new : List ℕ) → TableSplit base p Hex m.hexes (length m.vertices / 3 + (e + f)) old new → new ≡ overwritten old (concat (split t).hexes)
     unfolding topology
     stored_hexes old new s =
         let o : length m.vertices / 3 + (e + f) ≡ start t 3 = omega (arith, r.edges_are, r.faces_are) in
-        children_stored Hex m.hexes (start t 3) (length m.hexes / 8) ew fw none_met (quad_edges m ++ segment_edges m) (quad_faces m ++ segment_faces m) old new edges_met_lem faces_met_lem (rw o at s)
+        children_stored Hex m.hexes (start t 3) p (quad_edges m ++ segment_edges m) (quad_faces m ++ segment_faces m) old new edges_met_lem faces_met_lem (rw o at s)
         ∙ ap (overwritten old) (hexes_split m r.sound)
 
     -- the quads
-    module _ (ew₁ fw₁ : List ℕ) (n₁ : Known) (b₁ : BothMet base ew ew₁ fw fw₁ none_met (hex_edges m) (hex_faces m) n₁) where
-      pub room_quads : Room base ew₁ fw₁ n₁ (quad_edges m) (quad_faces m)
+    module _ {p₁ : PartTables} (b₁ : BothMet base p p₁ (hex_edges m) (hex_faces m)) where
+      pub room_quads : Room base p₁ (quad_edges m) (quad_faces m)
       room_quads = record {
         edge_table = b₁.edges.table;
         face_table = b₁.faces.table;
@@ -135,24 +134,24 @@ module _ {m : Mesh} {e f words : ℕ} (r : Ready m e f words) where
         faces_fit = next_fits b₁.faces (quad_faces m) (segment_faces m) faces_fit;
       }
 
-      pub stored_quads : (old new : List ℕ) → TableSplit base ew₁ fw₁ n₁ Quad m.quads 0 (length m.quads / 4) old new → new ≡ overwritten old (concat (split t).quads)
+      pub stored_quads : (old new : List ℕ) → TableSplit base p₁ Quad m.quads 0 old new → new ≡ overwritten old (concat (split t).quads)
       stored_quads old new s =
-          children_stored Quad m.quads 0 (length m.quads / 4) ew₁ fw₁ n₁ (segment_edges m) (segment_faces m) old new
+          children_stored Quad m.quads 0 p₁ (segment_edges m) (segment_faces m) old new
           (met_all b₁.edges (quad_edges m ++ segment_edges m) ∙ edges_met_lem) (met_all b₁.faces (quad_faces m ++ segment_faces m) ∙ faces_met_lem) s
           ∙ ap (overwritten old) (quads_split m r.sound 0)
 
       -- the segments
-      module _ (ew₂ fw₂ : List ℕ) (n₂ : Known) (b₂ : BothMet base ew₁ ew₂ fw₁ fw₂ n₁ (quad_edges m) (quad_faces m) n₂) where
-        both : BothMet base ew ew₂ fw fw₂ none_met (hex_edges m ++ quad_edges m) (hex_faces m ++ quad_faces m) n₂
+      module _ {p₂ : PartTables} (b₂ : BothMet base p₁ p₂ (quad_edges m) (quad_faces m)) where
+        both : BothMet base p p₂ (hex_edges m ++ quad_edges m) (hex_faces m ++ quad_faces m)
         both = record { edges = met_append b₁.edges b₂.edges; faces = met_append b₁.faces b₂.faces }
 
-        edges_last : meet_all (edges_in base ew₂ n₂) (segment_edges m) ≡ edges t
+        edges_last : meet_all (edges_in base p₂) (segment_edges m) ≡ edges t
         edges_last = met_all both.edges (segment_edges m) ∙ rw (append_assoc (hex_edges m) (quad_edges m) (segment_edges m)) edges_met_lem
 
-        faces_last : meet_all (faces_in base fw₂ n₂) (segment_faces m) ≡ faces t
+        faces_last : meet_all (faces_in base p₂) (segment_faces m) ≡ faces t
         faces_last = met_all both.faces (segment_faces m) ∙ rw (append_assoc (hex_faces m) (quad_faces m) (segment_faces m)) faces_met_lem
 
-        pub room_segments : Room base ew₂ fw₂ n₂ (segment_edges m) (segment_faces m)
+        pub room_segments : Room base p₂ (segment_edges m) (segment_faces m)
         room_segments = record {
           edge_table = b₂.edges.table;
           face_table = b₂.faces.table;
@@ -160,9 +159,9 @@ module _ {m : Mesh} {e f words : ℕ} (r : Ready m e f words) where
           faces_fit = omega (arith, ap length faces_last, r.faces_are);
         }
 
-        pub stored_segments : (old new : List ℕ) → TableSplit base ew₂ fw₂ n₂ Segment m.segments 0 (length m.segments / 2) old new → new ≡ overwritten old (concat (split t).segments)
+        pub stored_segments : (old new : List ℕ) → TableSplit base p₂ Segment m.segments 0 old new → new ≡ overwritten old (concat (split t).segments)
         stored_segments old new s =
-            children_stored Segment m.segments 0 (length m.segments / 2) ew₂ fw₂ n₂ [] [] old new
-            (ap (meet_all (edges_in base ew₂ n₂)) (append-nil (segment_edges m)) ∙ edges_last)
-            (ap (meet_all (faces_in base fw₂ n₂)) (append-nil (segment_faces m)) ∙ faces_last) s
+            children_stored Segment m.segments 0 p₂ [] [] old new
+            (ap (meet_all (edges_in base p₂)) (append-nil (segment_edges m)) ∙ edges_last)
+            (ap (meet_all (faces_in base p₂)) (append-nil (segment_faces m)) ∙ faces_last) s
             ∙ ap (overwritten old) (segments_split m r.sound 0)

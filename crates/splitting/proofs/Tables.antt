@@ -2,7 +2,6 @@
 use mathlib.Core.Path.{◌≡◌, refl, sym, ap, ◌∙◌}
 use mathlib.Core.List.{List, [], ◌∷◌, ◌++◌, map, map-append}
 use Prim.Native.Nat.{ℕ, ◌*◌, ◌/◌, ◌%◌, ◌≤◌, ◌<◌}
-use native.Mathlib.Nat.{mul-le-mul}
 use native.Mathlib.Omega.{arith}
 use lib.ListN.{length, get_or, drop, get_or-append}
 use Rattle.rules.specs.Lists.{concat, concat_map, overwritten, up_from, any, has}
@@ -18,7 +17,7 @@ use Rattle.splitting.specs.declared.kinds.CellKind.{CellKind}
 use Rattle.splitting.specs.declared.kinds.CellKind.TheVariants.{Hex, Quad, Segment}
 use Rattle.splitting.specs.Kinds.{kind_of, corner_count, smallest_listed}
 use Rattle.splitting.specs.Cells.{picked, child_corners}
-use Rattle.splitting.proofs.KindParts.{few_corners, some_corners}
+use Rattle.splitting.proofs.KindParts.{some_corners}
 
 -- what is read of rows that are listed one behind the other
 map_rows : (f : ℕ → ℕ) (rows : List (List ℕ)) → map f (concat rows) ≡ concat_map (map f) rows
@@ -62,9 +61,6 @@ pub length_smallest : (kind : CellKind) → length (smallest_listed kind) ≡ co
 unfolding smallest_listed
 length_smallest kind =
     length_concat (corner_count kind) (smallest_table (kind_of kind)) (row_length kind) ∙ ap (λ (n : ℕ). corner_count kind * n) (table_rows kind)
-
-pub few_smallest : (kind : CellKind) → length (smallest_listed kind) ≤ 64
-few_smallest kind = omega (arith, length_smallest kind, mul-le-mul (few_corners kind) (few_corners kind))
 
 -- place i of the list, by its row and column
 module _ (kind : CellKind) (i : ℕ) (l : i < length (smallest_listed kind)) where

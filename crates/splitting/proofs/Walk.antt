@@ -18,11 +18,11 @@ use Rattle.numbering.specs.Parts.{part_keys}
 use Rattle.numbering.proofs.Firsts.{up_from_snoc}
 use Rattle.numbering.proofs.Passes.{length_later, met_none, met_append, concat_map_at, concat_map_turn}
 use Rattle.splitting.specs.declared.kinds.CellKind.{CellKind}
-use Rattle.splitting.specs.declared.cells.Base.{Base}
-use Rattle.splitting.specs.declared.cells.Known.{Known}
+use Rattle.splitting.specs.declared.given.Base.{Base}
+use Rattle.splitting.specs.declared.cells.PartTables.{PartTables}
 use Rattle.splitting.specs.Kinds.{kind_of, corner_count, edges_of, faces_of}
 use Rattle.splitting.specs.Cells.{cells_in, entry_of, edges_met, faces_met, cell_numbers, child_corners, first_children}
-use Rattle.splitting.specs.Words.{edges_in, faces_in, numbers_at, Room, BothMet, TableSplit}
+use Rattle.splitting.specs.Words.{edges_in, faces_in, numbers_at, children_in, Room, BothMet, TableSplit}
 use Rattle.splitting.proofs.Tables.{children_length}
 
 -- ---- keys: f gives those of a cell
@@ -78,23 +78,21 @@ first_length kind eb es fb fs own cells n =
 
 -- ---- the first i cells of a table have been split
 
-pub record Walked (base : Base) (ew₀ ew fw₀ fw : List ℕ) (n : Known) (kind : CellKind) (cells : List ℕ) (own : ℕ) (old new : List ℕ) (known : Known) (i : ℕ) : Type 0 where
-  pub met : BothMet base ew₀ ew fw₀ fw n (edges_met kind (take i (cells_in kind cells))) (faces_met kind (take i (cells_in kind cells))) known
-  pub stored : (es fs : List Key) → new ≡ sets old 0
-      (first_children kind base.vertices (meet_all (edges_in base ew₀ n) (edges_met kind (cells_in kind cells) ++ es)) (base.vertices + base.edges)
-      (meet_all (faces_in base fw₀ n) (faces_met kind (cells_in kind cells) ++ fs)) own cells i)
+pub record Walked (base : Base) (t₀ t : PartTables) (kind : CellKind) (cells : List ℕ) (own : ℕ) (old new : List ℕ) (i : ℕ) : Type 0 where
+  pub met : BothMet base t₀ t (edges_met kind (take i (cells_in kind cells))) (faces_met kind (take i (cells_in kind cells)))
+  pub stored : (es fs : List Key) → new ≡ sets old 0 (children_in base t₀ kind cells own es fs i)
 
-pub walk_start : (base : Base) (ew fw : List ℕ) (n : Known) (kind : CellKind) (cells : List ℕ) (own : ℕ) (old : List ℕ) (es fs : List Key) → Room base ew fw n es fs → Walked base ew ew fw fw n kind cells own old old n 0
+pub walk_start : (base : Base) (t : PartTables) (kind : CellKind) (cells : List ℕ) (own : ℕ) (old : List ℕ) (es fs : List Key) → Room base t es fs → Walked base t t kind cells own old old 0
 unfolding concat_map up_from first_children
-walk_start base ew fw n kind cells own old es fs r = record { met = record { edges = met_none r.edge_table; faces = met_none r.face_table }; stored = λ es fs. refl }
+walk_start base t kind cells own old es fs r = record { met = record { edges = met_none r.edge_table; faces = met_none r.face_table }; stored = λ es fs. refl }
 
-module _ {base : Base} {ew₀ ew fw₀ fw : List ℕ} {n : Known} {kind : CellKind} {cells : List ℕ} {own : ℕ} {old new : List ℕ} {known : Known} {i : ℕ} (p : Walked base ew₀ ew fw₀ fw n kind cells own old new known i) where
+module _ {base : Base} {t₀ t : PartTables} {kind : CellKind} {cells : List ℕ} {own : ℕ} {old new : List ℕ} {i : ℕ} (p : Walked base t₀ t kind cells own old new i) where
   module _ (l : i < length cells / corner_count kind) where
     listed : i < length (cells_in kind cells)
     listed = omega (arith, length_cut (corner_count kind) cells)
 
     -- room for all is room for the next cell
-    pub walk_room : Room base ew₀ fw₀ n (edges_met kind (cells_in kind cells)) (faces_met kind (cells_in kind cells)) → Room base ew fw known (part_keys (edges_of kind) (entry_of kind cells i)) (part_keys (faces_of kind) (entry_of kind cells i))
+    pub walk_room : Room base t₀ (edges_met kind (cells_in kind cells)) (faces_met kind (cells_in kind cells)) → Room base t (part_keys (edges_of kind) (entry_of kind cells i)) (part_keys (faces_of kind) (entry_of kind cells i))
     walk_room r = record {
       edge_table = p.met.edges.table;
       face_table = p.met.faces.table;
@@ -103,9 +101,9 @@ module _ {base : Base} {ew₀ ew fw₀ fw : List ℕ} {n : Known} {kind : CellKi
     }
 
     -- the next cell was split
-    pub walk_turn : {ew' fw' new' : List ℕ} {more : Known} → BothMet base ew ew' fw fw' known (part_keys (edges_of kind) (entry_of kind cells i)) (part_keys (faces_of kind) (entry_of kind cells i)) more → ((es fs : List Key) → new' ≡ sets new (corner_count kind * (corner_count kind * i)) (child_corners (kind_of kind) (numbers_at base ew fw known kind (entry_of kind cells i) (own + i) es fs))) → Walked base ew₀ ew' fw₀ fw' n kind cells own old new' more (i + 1)
+    pub walk_turn : {t' : PartTables} {new' : List ℕ} → BothMet base t t' (part_keys (edges_of kind) (entry_of kind cells i)) (part_keys (faces_of kind) (entry_of kind cells i)) → ((es fs : List Key) → new' ≡ sets new (corner_count kind * (corner_count kind * i)) (child_corners (kind_of kind) (numbers_at base t kind (entry_of kind cells i) (own + i) es fs))) → Walked base t₀ t' kind cells own old new' (i + 1)
     unfolding first_children
-    walk_turn {ew'} {fw'} {new'} {more} m s = record {
+    walk_turn {t'} {new'} m s = record {
       met = record {
         edges = next_met (part_keys (edges_of kind)) (cells_in kind cells) i listed p.met.edges m.edges;
         faces = next_met (part_keys (faces_of kind)) (cells_in kind cells) i listed p.met.faces m.faces;
@@ -113,8 +111,8 @@ module _ {base : Base} {ew₀ ew fw₀ fw : List ℕ} {n : Known} {kind : CellKi
       stored = λ es fs.
           let cs = cells_in kind cells in
           let cc = corner_count kind in
-          let all_edges = meet_all (edges_in base ew₀ n) (edges_met kind cs ++ es) in
-          let all_faces = meet_all (faces_in base fw₀ n) (faces_met kind cs ++ fs) in
+          let all_edges = meet_all (edges_in base t₀) (edges_met kind cs ++ es) in
+          let all_faces = meet_all (faces_in base t₀) (faces_met kind cs ++ fs) in
           let g : ℕ → List ℕ = λ j. child_corners (kind_of kind) (cell_numbers kind base.vertices all_edges (base.vertices + base.edges) all_faces (own + j) (entry_of kind cells j)) in
           (rw (from_here (part_keys (edges_of kind)) cs i listed p.met.edges es, from_here (part_keys (faces_of kind)) cs i listed p.met.faces fs)
           at (s (edges_met kind (drop (suc i) cs) ++ es) (faces_met kind (drop (suc i) cs) ++ fs)))
@@ -124,16 +122,13 @@ module _ {base : Base} {ew₀ ew fw₀ fw : List ℕ} {n : Known} {kind : CellKi
     }
 
   -- all cells have been split
-  pub walk_end : i ≡ length cells / corner_count kind → corner_count kind * (corner_count kind * (length cells / corner_count kind)) ≤ length old → BothMet base ew₀ ew fw₀ fw n (edges_met kind (cells_in kind cells)) (faces_met kind (cells_in kind cells)) known × TableSplit base ew₀ fw₀ n kind cells own (length cells / corner_count kind) old new
+  pub walk_end : i ≡ length cells / corner_count kind → corner_count kind * (corner_count kind * (length cells / corner_count kind)) ≤ length old → BothMet base t₀ t (edges_met kind (cells_in kind cells)) (faces_met kind (cells_in kind cells)) × TableSplit base t₀ kind cells own old new
   walk_end e l =
       let k = corner_count kind in
       let count = length cells / k in (
         rw (take_all i (cells_in kind cells) (omega (arith, length_cut k cells))) at p.met,
         λ es fs.
-            let es' = meet_all (edges_in base ew₀ n) (edges_met kind (cells_in kind cells) ++ es) in
-            let fs' = meet_all (faces_in base fw₀ n) (faces_met kind (cells_in kind cells) ++ fs) in
-            let fb = base.vertices + base.edges in
-            (rw e at (p.stored es fs))
-            ∙ sets_front old (first_children kind base.vertices es' fb fs' own cells count)
-            (omega (arith, first_length kind base.vertices es' fb fs' own cells count, mul_assoc k k count)),
+            let n = first_length kind base.vertices (meet_all (edges_in base t₀) (edges_met kind (cells_in kind cells) ++ es)) (base.vertices + base.edges)
+            (meet_all (faces_in base t₀) (faces_met kind (cells_in kind cells) ++ fs)) own cells count in
+            (rw e at (p.stored es fs)) ∙ sets_front old (children_in base t₀ kind cells own es fs count) (omega (arith, n, mul_assoc k k count)),
       )

@@ -3,10 +3,11 @@ use Rattle.std.specs.Prelude.{◌≡◌, ℕ, ◌+◌, ◌*◌, ◌/◌, ◌^◌
 use Rattle.rules.specs.Mesh.{Mesh, topology}
 use Rattle.rules.specs.Split.{edges, faces}
 use Rattle.soundness.specs.Sound.{Sound}
+use Rattle.numbering.specs.Table.{words_for}
 
 -- how many words the tables of E edges and F faces take
 abbrev pub table_words : ℕ → ℕ → ℕ
-table_words e f = 4 * e + 1 + (6 * f + 1)
+table_words e f = words_for 2 e + words_for 4 f
 
 -- the mesh is sound and has e edges and f faces; there are words for their tables; all numbers have 32 bits
 pub record Ready (m : Mesh) (e f words : ℕ) : Type 0 where

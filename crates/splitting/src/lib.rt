@@ -10,18 +10,22 @@ ghost use Rattle.rules.specs.Split.{split};
 ghost use Rattle.tables.specs.Lent.{mesh_in};
 ghost use Rattle.splitting.specs.Ready.{Ready, Places};
 
-use cells::{Base, Known};
+use cells::PartTables;
+use given::Base;
 use kinds::CellKind;
-use numbering::table;
 use tables::MeshTables;
 
 // The kinds of cells that are split.
 pub mod kinds;
 
+// What stays while the cells of a kind are split.
+pub mod given;
+
 // A cell's fine vertices and children.
 pub mod cells;
 
-// Splits a sound mesh that has so many edges and faces. Its coordinates are not read; the contract speaks of the mesh.
+// Splits a sound mesh that has so many edges and faces. Its coordinates are not read; the contract speaks of the mesh. The children's tables are
+// lent one by one: `LentTables` has five tables, and no coordinates are written here.
 pub fn split(
     mesh: MeshTables,
     edges: usize,
@@ -45,40 +49,10 @@ pub fn split(
         edges,
         faces,
     };
-    let (edge_words, face_words) = words.split_at_mut(4 * edges + 1);
-    table::prepare(edge_words, edges);
-    table::prepare(face_words, faces);
-    let none = Known { edges: 0, faces: 0 };
+    let mut parts = PartTables::new(words, base);
     let own = vertices + (edges + faces);
-    let by_hexes = cells::split_cells(
-        edge_words,
-        face_words,
-        base,
-        none,
-        CellKind::Hex,
-        mesh.hexes,
-        own,
-        out_hexes,
-    );
-    let by_quads = cells::split_cells(
-        edge_words,
-        face_words,
-        base,
-        by_hexes,
-        CellKind::Quad,
-        mesh.quads,
-        0,
-        out_quads,
-    );
-    cells::split_cells(
-        edge_words,
-        face_words,
-        base,
-        by_quads,
-        CellKind::Segment,
-        mesh.segments,
-        0,
-        out_segments,
-    );
+    parts.split_cells(base, CellKind::Hex, mesh.hexes, own, out_hexes);
+    parts.split_cells(base, CellKind::Quad, mesh.quads, 0, out_quads);
+    parts.split_cells(base, CellKind::Segment, mesh.segments, 0, out_segments);
     memory::copy(mesh.points, out_points);
 }

@@ -5,4 +5,4 @@ use Rattle.numbering.proofs.count.prepare_for.Goals as goal
 pub returns : goal.returns
 returns c =
     let r = c.room_in-room in
-    rw c.prepare.ensures (table_prepared c.args.c c.args.w.now r.result (omega (arith, r.ensures.0)) r.ensures.1)
+    rw c.prepare.ensures (table_prepared c.args.c c.args.w.now r.result (omega (arith, r.ensures.fits)) r.ensures.few)

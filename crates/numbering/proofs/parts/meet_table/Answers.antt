@@ -2,18 +2,8 @@
 use Rattle.std.proofs.Common.{◌≡◌, length, sym, ap, ◌∙◌, arith}
 use Rattle.rules.specs.Lists.{concat_map, cut}
 use Rattle.numbering.specs.Parts.{cell_corners, table_keys, places_listed, listed_keys}
-use Rattle.numbering.proofs.Places.{few_parts, list_size, list_lent, few_listed, count_listed, listed_within, table_listed}
+use Rattle.numbering.proofs.Places.{few_parts, list_size, list_lent, count_listed, listed_within, table_listed}
 use Rattle.numbering.proofs.parts.meet_table.Goals as goal
-
-pub overflow_mul-end : goal.overflow_mul-end
-overflow_mul-end g c =
-    let p = c.args.parts in
-    omega (arith, list_size p _ _ c.requires.corners c.count-end.ensures, few_listed p)
-
-pub slice_bounds-places-end : goal.slice_bounds-places-end
-slice_bounds-places-end g c =
-    let p = c.args.parts in
-    omega (arith, list_size p _ _ c.requires.corners c.count-end.ensures, few_listed p)
 
 pub slice_bounds-meet_cells-end : goal.slice_bounds-meet_cells-end
 slice_bounds-meet_cells-end g c =

@@ -8,7 +8,7 @@ pub returns : goal.returns
 unfolding entered
 returns c =
     let x = c.args in
-    rw (c.put.ensures, c.requires.s_value, add-one (place (length x.key.now) x.room x.n))
+    rw (c.put.ensures, c.requires.s_value, c.place-at.ensures, add-one (place (length x.key.now) x.room x.n))
     (met_new x.w.now x.room x.n x.key.now c.requires.table c.requires.n_lt_room c.requires.n_bound)
 
 pub bounds-w-s-2 : goal.bounds-w-s-2

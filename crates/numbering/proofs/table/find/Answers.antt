@@ -1,4 +1,4 @@
-use Rattle.std.proofs.Common.{◌-◌, refl, arith}
+use Rattle.std.proofs.Common.{refl, arith}
 use Rattle.std.proofs.lemmas.Bool.{false≢true}
 use Rattle.numbering.proofs.Entries.{walk_start, walk_on, walk_hit, walk_end}
 use Rattle.numbering.proofs.table.find.Goals as goal
@@ -8,15 +8,18 @@ loop-link-init c = walk_start c.requires.table c.args.key.now _ _ c.requires.s_v
 
 pub returns-then-is_at : goal.returns-then-is_at
 returns-then-is_at c =
-    walk_hit c.requires.table c.args.key.now c.loop-link.link (c.loop-link.link - 1) (omega arith) c.loop-link.invariant (c.is_at.ensures.0 c.if-is_at.true)
+    let l = c.loop-link in
+    walk_hit c.requires.table c.args.key.now l.link _ _ (omega arith) c.place-at.ensures l.invariant (c.is_at.ensures.0 c.if-is_at.true)
 
 pub loop-link-smaller : goal.loop-link-smaller
 loop-link-smaller c =
-    (walk_on c.requires.table c.args.key.now c.loop-link.link (c.loop-link.link - 1) (omega arith) c.loop-link.invariant (λ e. false≢true (c.if-is_at.ensures.1 e))).1
+    let l = c.loop-link in
+    (walk_on c.requires.table c.args.key.now l.link _ _ (omega arith) c.place-at.ensures l.invariant (λ e. false≢true (c.if-is_at.ensures.1 e))).1
 
 pub loop-link-preserved : goal.loop-link-preserved
 loop-link-preserved c =
-    (walk_on c.requires.table c.args.key.now c.loop-link.link (c.loop-link.link - 1) (omega arith) c.loop-link.invariant (λ e. false≢true (c.if-is_at.ensures.1 e))).0
+    let l = c.loop-link in
+    (walk_on c.requires.table c.args.key.now l.link _ _ (omega arith) c.place-at.ensures l.invariant (λ e. false≢true (c.if-is_at.ensures.1 e))).0
 
 pub returns : goal.returns
 returns c =

@@ -8,19 +8,21 @@ use Rattle.checks.proofs.tagged.TaggedKeys.meet.Goals.{then-self-met, else-self-
 pub returns-then-words-at-clause-met : goal.returns-then-words-at-clause-met
 returns-then-words-at-clause-met g c =
     let t = c.args.self.now in
-    let size = words_for g.row.C t.room in
+    let size = c.size-size.ensures in
     let long : length c.args.key ≡ g.row.C = omega arith in
-    let kept : length c.meet.new.w ≡ size = c.meet.auto.w ∙ length-take-le size t.words.now (omega (arith, c.requires.fits)) in
-    differed c.args.key c.args.tag c.requires (rw long at c.in-Some.ensures) kept c.if-self-met.false c.if-words-at.true
+    let kept : length c.meet.new.w ≡ words_for g.row.C t.room =
+    c.meet.auto.w ∙ rw size (length-take-le (words_for g.row.C t.room) t.words.now (omega (arith, c.requires.fits))) in
+    differed c.args.key c.args.tag c.requires (rw (long, size) at c.in-Some.ensures) kept c.if-self-met.false (rw size at c.if-words-at.true)
 
 pub returns-clause-met : goal.returns-clause-met
 returns-clause-met g c =
     let t = c.args.self.now in
-    let size = words_for g.row.C t.room in
+    let size = c.size-size.ensures in
     let long : length c.args.key ≡ g.row.C = omega arith in
-    let kept : length c.meet.new.w ≡ size = c.meet.auto.w ∙ length-take-le size t.words.now (omega (arith, c.requires.fits)) in
-    let met = rw long at c.in-Some.ensures in
+    let kept : length c.meet.new.w ≡ words_for g.row.C t.room =
+    c.meet.auto.w ∙ rw size (length-take-le (words_for g.row.C t.room) t.words.now (omega (arith, c.requires.fits))) in
+    let met = rw (long, size) at c.in-Some.ensures in
     elim c.if-self-met.branch [
-      | then-self-met w ↦ rw w.self-is (agreed_new c.args.key c.args.tag c.requires met kept w.if-self-met.true)
-      | else-self-met+else-words-at w ↦ rw w.self-is (agreed_known c.args.key c.args.tag c.requires met kept w.if-words-at.false)
+      | then-self-met w ↦ rw (w.self-is, size) (agreed_new c.args.key c.args.tag c.requires met kept w.if-self-met.true)
+      | else-self-met+else-words-at w ↦ rw (w.self-is, size) (agreed_known c.args.key c.args.tag c.requires met kept (rw size at w.if-words-at.false))
     ]

@@ -8,16 +8,16 @@ use Rattle.splitting.specs.Cells.{entry_of, child_corners}
 use Rattle.splitting.specs.Words.{numbers_at}
 use Rattle.splitting.proofs.Tables.{children_length}
 use Rattle.splitting.proofs.Walk.{walk_start, walk_room, walk_turn, walk_end}
-use Rattle.splitting.proofs.cells.split_each.Goals as goal
+use Rattle.splitting.proofs.cells.PartTables.split_each.Goals as goal
 
 pub loop-i-init : goal.loop-i-init
-loop-i-init c = walk_start _ _ _ _ _ _ _ _ _ _ c.requires.room
+loop-i-init c = walk_start _ _ _ _ _ _ _ _ c.requires.room
 
-pub split_cell-known-requires-clause-room : goal.split_cell-known-requires-clause-room
-split_cell-known-requires-clause-room c =
+pub split_cell-requires-clause-room : goal.split_cell-requires-clause-room
+split_cell-requires-clause-room c =
     let l = c.loop-i in
     let x = c.args in
-    let k = corner_count x.lists.kind in
+    let k = corner_count x.given.kind in
     let u : l.i < length x.cells.now / k = rw c.corner_count-corners.ensures at c.loop-i-test.true in
     rw (c.corner_count-corners.ensures, entry_is k l.i x.cells.now u) (walk_room l.invariant u c.requires.room)
 
@@ -25,10 +25,10 @@ pub loop-i-preserved : goal.loop-i-preserved
 loop-i-preserved c =
     let l = c.loop-i in
     let x = c.args in
-    let kind = x.lists.kind in
+    let kind = x.given.kind in
     let k = corner_count kind in
     let u : l.i < length x.cells.now / k = rw c.corner_count-corners.ensures at c.loop-i-test.true in
-    let d = c.split_cell-known.ensures in
+    let d = c.split_cell.ensures in
     let cell = entry_is k l.i x.cells.now u in
     let met = rw (c.corner_count-corners.ensures, cell) at d.both_met in
     let stored = rw (c.corner_count-corners.ensures, cell) at d.cell_split in
@@ -37,7 +37,7 @@ loop-i-preserved c =
     rw c.corner_count-corners.ensures
     (walk_turn l.invariant u met
     (λ es fs.
-    let ns = numbers_at x.base l.edge_words l.face_words l.known kind (entry_of kind x.cells.now l.i) (x.own + l.i) es fs in
+    let ns = numbers_at x.given.base l.self kind (entry_of kind x.cells.now l.i) (x.own + l.i) es fs in
     ap (λ (v : List ℕ). put_mid a (length l.out - a) l.out v) (stored es fs)
     ∙ sets_rest a l.out (child_corners (kind_of kind) ns) (omega (arith, h, children_length kind ns, c.requires.children_in_bounds, l.auto.out))))
 
@@ -46,6 +46,6 @@ returns c =
     let l = c.loop-i in
     let u = rw c.corner_count-corners.ensures at c.loop-i-test.false in
     let v = rw c.corner_count-corners.ensures at c.loop-i.auto.i-end in
-    let e : l.i ≡ length c.args.cells.now / corner_count c.args.lists.kind = omega (arith, u, v) in
+    let e : l.i ≡ length c.args.cells.now / corner_count c.args.given.kind = omega (arith, u, v) in
     let w = walk_end l.invariant e c.requires.children_in_bounds in
     record { both_met = w.0; table_split = w.1 }
