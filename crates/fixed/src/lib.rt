@@ -20,7 +20,7 @@ use rules::{Counts, Refusal};
 use stored::read;
 use tables::{LentTables, MeshTables};
 
-// The tables of a mesh that is read.
+// The tables of a mesh that is read, and those to work in.
 pub mod arrays;
 
 // Refines a mesh, with working memory of the fixed sizes.
