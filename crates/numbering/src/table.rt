@@ -60,8 +60,8 @@ fn is_at(w: &[u32], at: usize, key: &[u32]) -> bool
     requires { at + length key.now ≤ length w.now }
     ensures { IsTrue result ↔ run w.now at (length key.now) ≡ key.now }
 {
-    for (i, x) in key.iter().enumerate() {
-        if w[at + i] != *x {
+    for (x, y) in w[at..at + key.len()].iter().zip(key) {
+        if x != y {
             return false;
         }
     }
