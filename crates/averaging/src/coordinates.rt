@@ -19,7 +19,7 @@ pub fn unbias(u: u64) -> i32
     (u as i64 - 536_870_912) as i32
 }
 
-// The biased coordinates of a vertex. One by one, since `map` makes refining segments take 0.55 % more instructions.
+// The biased coordinates of a vertex. One by one, since with `map` refining segments takes 0.55 % more instructions.
 fn biased_vertex(vertex: &[i32; 3]) -> [u64; 3]
     requires { (a : ℕ) → a < 3 → InRange (get_or vertex.now a (pos 0)) }
     ensures { (a : ℕ) → a < 3 → (get_or result a 0 ≡ biased (get_or vertex.now a (pos 0))) × (get_or result a 0 < 2 ^ 30) }
@@ -38,7 +38,7 @@ pub struct Gathered<const N: usize> {
 }
 
 impl<const N: usize> Gathered<N> {
-    // A loop with an index: in a `map` the closure needs a contract of its own, as long as this one.
+    // By index: with a `map` over the cell refining takes 0.4 % more instructions (hexes, quads) to 0.9 % more (segments).
     pub fn of(cell: &[u32; N], vertices: &[[i32; 3]]) -> Gathered<N>
         requires few { N ≤ 8 }
         requires known { Known (length vertices.now) cell.now }
