@@ -3,8 +3,8 @@ use Rattle.std.proofs.Common.{◌≡◌, ℕ, ◌+◌, ◌-◌, ◌/◌, ◌≤�
 use lib.ListN.{set, take, drop, length-append, length-map}
 use lib.Seq.{sets, length-sets}
 use borrow.Rule.Slice.PartMut.{put_mid}
-use Rattle.rules.specs.Lists.{overwritten, meet_all}
-use Rattle.numbering.specs.Parts.{part_keys}
+use Rattle.rules.specs.Lists.{Key, overwritten, meet_all}
+use Rattle.numbering.specs.Parts.{part_keys, Numbered}
 use Rattle.numbering.proofs.Places.{length_part_keys}
 use Rattle.memory.proofs.Stores.{sets_append, sets_front, sets_rest}
 use Rattle.splitting.specs.Kinds.{edges_of, faces_of}
@@ -21,6 +21,14 @@ four_stores l xs ys zs d p q r e f g =
     ∙ rw (zero-add (length xs))
     (sets_append (sets l 0 xs) (length xs) ys (zs ++ (d ∷ []))
     ∙ sets_append (sets (sets l 0 xs) (length xs) ys) (length xs + length ys) zs (d ∷ []))))
+
+-- a number stored at a place that is written in another way
+stored_at : (l : List ℕ) (p r d : ℕ) (new : List ℕ) → set l r d ≡ new → p ≡ r → set l p d ≡ new
+stored_at l p r d new h e = rw e h
+
+-- keys numbered from a base that is written in another way
+counted_from : {c : ℕ} {w w' : List ℕ} {room n : ℕ} {ks : List Key} {base : ℕ} {old new : List ℕ} {count : ℕ} → Numbered c w w' room n ks base old new count → (same : ℕ) → base ≡ same → Numbered c w w' room n ks same old new count
+counted_from m same e = rw e at m
 
 -- numbers stored in the array from q on
 rest : (q : ℕ) (l ds : List ℕ) → length l ≡ 27 → q + length ds ≤ 27 → put_mid q (27 - q) l (overwritten (take (27 - q) (drop q l)) ds) ≡ sets l q ds
@@ -47,7 +55,8 @@ returns-clause-cell_numbered c es fs =
     let b = x.given.base in
     let cell = x.cell.now in
     let e = rw (edges_listed c.args.given cell) at c.number_parts-edges.ensures in
-    let f = rw (faces_listed c.args.given cell) at c.number_parts-faces.ensures in
+    let f₀ = rw (faces_listed c.args.given cell) at c.number_parts-faces.ensures in
+    let f = counted_from f₀ (b.vertices + b.edges) (omega arith) in
     let eks = part_keys (edges_of x.given.kind) cell in
     let fks = part_keys (faces_of x.given.kind) cell in
     let ds = numbers_in b.vertices eks (meet_all (edges_in b x.self.now) (eks ++ es)) in
@@ -67,6 +76,8 @@ returns-clause-cell_numbered c es fs =
     let s₂ : put_mid q (27 - q) l₂ c.number_parts-faces.new.numbers ≡ sets l₂ q gs =
     ap (λ (v : List ℕ). put_mid q (27 - q) l₂ v) (f.numbers_are fs) ∙ rest q l₂ gs long₂ (omega arith) in
     let h = c.copy.ensures ∙ sym (sets_front x.numbers.now cell (omega arith)) in
+    let stored : set (put_mid q (27 - q) l₂ c.number_parts-faces.new.numbers) r x.own ≡ overwritten x.numbers.now (cell ++ (ds ++ (gs ++ (x.own ∷ [])))) =
     ap (λ (l : List ℕ). set l r x.own) (s₂ ∙ ap (λ (l : List ℕ). sets l q gs) (s₁ ∙ ap (λ (l : List ℕ). sets l (length cell) ds) h))
     ∙ four_stores x.numbers.now cell ds gs x.own (length cell) q r refl (omega arith) (omega arith)
-    ∙ sets_front x.numbers.now (cell ++ (ds ++ (gs ++ (x.own ∷ [])))) u
+    ∙ sets_front x.numbers.now (cell ++ (ds ++ (gs ++ (x.own ∷ [])))) u in
+    stored_at _ _ r _ _ stored (omega arith)
