@@ -117,10 +117,10 @@ module _ {m : Mesh} {e f words : ℕ} (r : Ready m e f words) where
       faces_fit = omega (arith, faces_fit, length_later (faces_in base p) (hex_faces m) (quad_faces m ++ segment_faces m));
     }
 
-    pub stored_hexes : (old new : List ℕ) → TableSplit base p Hex m.hexes (length m.vertices / 3 + (e + f)) old new → new ≡ overwritten old (concat (split t).hexes)
+    pub stored_hexes : (old new : List ℕ) (own : ℕ) → TableSplit base p Hex m.hexes own old new → own ≡ length m.vertices / 3 + (e + f) → new ≡ overwritten old (concat (split t).hexes)
     unfolding topology
-    stored_hexes old new s =
-        let o : length m.vertices / 3 + (e + f) ≡ start t 3 = omega (arith, r.edges_are, r.faces_are) in
+    stored_hexes old new own s first =
+        let o : own ≡ start t 3 = omega (arith, r.edges_are, r.faces_are) in
         children_stored Hex m.hexes (start t 3) p (quad_edges m ++ segment_edges m) (quad_faces m ++ segment_faces m) old new edges_met_lem faces_met_lem (rw o at s)
         ∙ ap (overwritten old) (hexes_split m r.sound)
 

@@ -1,5 +1,5 @@
 -- Three tables, met one after the other (proofs/Round.antt), and the points.
-use Rattle.std.proofs.Common.{sym, ap, ◌∙◌}
+use Rattle.std.proofs.Common.{sym, ap, ◌∙◌, arith}
 use Rattle.rules.specs.Lists.{overwritten}
 use Rattle.rules.specs.Mesh.{Mesh}
 use Rattle.tables.specs.Lent.{mesh_in}
@@ -17,7 +17,7 @@ pub split_cells-requires-3-clause-room : goal.split_cells-requires-3-clause-room
 split_cells-requires-3-clause-room c = room_segments c.requires.ready c.new-parts.ensures c.split_cells.ensures.both_met c.split_cells-2.ensures.both_met
 
 pub returns-clause-out_hexes_after : goal.returns-clause-out_hexes_after
-returns-clause-out_hexes_after c = stored_hexes c.requires.ready c.new-parts.ensures _ _ c.split_cells.ensures.table_split
+returns-clause-out_hexes_after c = stored_hexes c.requires.ready c.new-parts.ensures _ _ _ c.split_cells.ensures.table_split (omega arith)
 
 pub returns-clause-out_quads_after : goal.returns-clause-out_quads_after
 returns-clause-out_quads_after c =
