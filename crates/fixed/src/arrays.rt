@@ -29,7 +29,7 @@ impl Arrays {
         }
     }
 
-    // All of them, to be written.
+    // All of them, to be written. What is written through the loan is not said to stay in the arrays: each owner lends them once.
     #[tactic(auto, unfolding(rules::specs::Counts::counts_of))]
     pub fn lend(&mut self) -> LentTables<'_, '_, '_, '_, '_>
         ensures tables { mesh_at result ≡ mesh_of_arrays self.old }

@@ -1,4 +1,5 @@
--- The fields that are read of a header make the checks 14 and 2 (`header_read`) behind 13 (`header_short`), and the field of the width makes check 15 (`width_read`).
+-- The fields that are read of a header make the checks 14 and 2 (`header_read`) behind 13 (`header_short`),
+-- and the field of the width makes check 15 (`width_read`).
 use Prim.Native.Nat.{ℕ, ◌≤◌, ◌<◌}
 use mathlib.Core.Path.{◌≡◌, ap}
 use mathlib.Core.Bool.{true, false, not}
