@@ -75,18 +75,26 @@ module _ {c : ℕ} {w : List ℕ} {room n : ℕ} (t : Table c w room n) (k : Key
   -- at the entry e, which starts at `at`
   module _ (x e at : ℕ) (u : x ≡ e + 1) (p : at ≡ place c room e) (v : Walk c w room n k x) where
     -- past an entry with another key the walk goes on to an older one
-    pub walk_on : (run w (at + 1) c ≡ k → ⊥) → Walk c w room n k (get_or w at 0) × (get_or w at 0 < x)
+    walk_older : (run w (at + 1) c ≡ k → ⊥) → Walk c w room n k (get_or w at 0) × (get_or w at 0 < x)
     unfolding entry_key next_at
-    walk_on other =
+    walk_older other =
         let x-is : x ≡ suc e = u ∙ add-one e in
         let past = λ (h : run w (place c room e + 1) c ≡ k). other (rw p h) in
         rw p (step t.chains k e (rw x-is at v) past, omega (arith, step_less t.chains k e (omega (arith, v.within))))
 
+    -- at its link, however its place is written
+    module _ (link : ℕ) (same : link ≡ at) (other : run w (at + 1) c ≡ k → ⊥) where
+      pub walk_on : Walk c w room n k (get_or w link 0)
+      walk_on = rw same (walk_older other).0
+
+      pub walk_less : get_or w link 0 < x
+      walk_less = rw same (walk_older other).1
+
     -- an entry with the key: its place
-    pub walk_hit : run w (at + 1) c ≡ k → Found (keys c w room n) k (Some e)
+    pub walk_hit : run w (at + 1) c ≡ k → (number : ℕ) → number ≡ e → Found (keys c w room n) k (Some number)
     unfolding entry_key keys
-    walk_hit h =
-        (sym (found t.chains k e (omega (arith, v.within)) (rw p at h)), omega (arith, v.within, length_firsts (entry_key c w room) n))
+    walk_hit h number same =
+        rw same (sym (found t.chains k e (omega (arith, v.within)) (rw p at h)), omega (arith, v.within, length_firsts (entry_key c w room) n))
 
   -- the chain's end: the key is not there
   pub walk_end : (x : ℕ) → x ≡ 0 → Walk c w room n k x → Found (keys c w room n) k None
@@ -179,6 +187,11 @@ module _ (w : List ℕ) (room n : ℕ) (k : Key) (t : Table (length k) w room n)
         number_is = sym (ap (index_of k) e ∙ index_right k ks (k ∷ []) absent ∙ omega (arith, index_last k, length_firsts (entry_key (length k) w room) n));
         known = omega arith;
       })
+
+  -- however the places and the numbers that are stored are written
+  pub met_entered : n ≤ index_of k (keys (length k) w room n) → (at slot link head : ℕ) → at ≡ place (length k) room n → slot ≡ slot_of room k → link ≡ get_or w slot 0 → head ≡ n + 1 → Met (length k) w (set (sets (set w at link) (at + 1) k) slot head) room n k n (n + 1)
+  unfolding entered
+  met_entered l at slot link head p q e h = rw (h, e, q, p, add-one (place (length k) room n)) (met_new l)
 
 -- a key that was there
 pub met_known : (c : ℕ) (w : List ℕ) (room n : ℕ) (k : Key) → Table c w room n → (number : ℕ) → number ≡ index_of k (keys c w room n) → number < n → Met c w w room n k number n

@@ -1,15 +1,13 @@
-use Rattle.std.proofs.Common.{length, add-one, arith}
+use Rattle.std.proofs.Common.{arith}
 use Rattle.std.proofs.lemmas.List.{length-set}
-use Rattle.numbering.specs.Table.{place}
-use Rattle.numbering.proofs.Entries.{entered, met_new, slot_below}
+use Rattle.numbering.proofs.Entries.{met_entered, slot_below}
 use Rattle.numbering.proofs.table.enter.Goals as goal
 
 pub returns : goal.returns
-unfolding entered
 returns c =
     let x = c.args in
-    rw (c.put.ensures, c.requires.s_value, c.place-at.ensures, add-one (place (length x.key.now) x.room x.n))
-    (met_new x.w.now x.room x.n x.key.now c.requires.table c.requires.n_lt_room c.requires.n_bound)
+    let r = c.requires in
+    rw c.put.ensures (met_entered x.w.now x.room x.n x.key.now r.table r.n_lt_room r.n_bound _ _ _ _ c.place-at.ensures r.s_value (omega arith) (omega arith))
 
 pub bounds-w-s-2 : goal.bounds-w-s-2
 bounds-w-s-2 c =
