@@ -6,7 +6,7 @@ ghost use Rattle.numbering.specs.Parts.{part_keys, Within, listed_keys, Numbered
 ghost use Rattle.splitting.specs.Kinds.{corner_count, edges_of, faces_of};
 ghost use Rattle.splitting.specs.Cells.{cells_in, edges_met, faces_met};
 ghost use Rattle.splitting.specs.Ready.{table_words};
-ghost use Rattle.splitting.specs.Words.{NoneMet, Room, BothMet, CellNumbered, CellSplit, TableSplit};
+ghost use Rattle.splitting.specs.Words.{SameTables, NoneMet, Room, BothMet, CellNumbered, CellSplit, TableSplit};
 
 use crate::given::{Base, Setting};
 use crate::kinds::CellKind;
@@ -22,9 +22,9 @@ pub struct Known {
 // The tables of the edges and of the faces that have been met.
 #[derive(Drop)]
 pub struct PartTables<'a> {
-    edge_words: &'a mut [u32],
-    face_words: &'a mut [u32],
-    known: Known,
+    pub edge_words: &'a mut [u32],
+    pub face_words: &'a mut [u32],
+    pub known: Known,
 }
 
 // Meets the parts of a cell, of C corners each, in a table that has room for them all. The parameters are those of `meet_parts`: the words, the
@@ -73,6 +73,7 @@ impl<'a> PartTables<'a> {
         requires room { Room given.base self.old (part_keys (edges_of given.kind) cell.now) (part_keys (faces_of given.kind) cell.now) }
         requires cell_len { length cell.now ≡ corner_count given.kind }
         requires own_bound { own < 2 ^ 32 }
+        ensures same_tables { SameTables self.old self.new }
         ensures both_met { BothMet given.entry.base self.old self.new
             (part_keys (edges_of given.entry.kind) cell.now) (part_keys (faces_of given.entry.kind) cell.now) }
         ensures cell_numbered { CellNumbered given.entry.base self.old given.entry.kind cell.now own numbers.old numbers.new }
@@ -119,6 +120,7 @@ impl<'a> PartTables<'a> {
         requires cell_len { length cell.now ≡ corner_count given.kind }
         requires own_bound { own < 2 ^ 32 }
         requires children_in_bounds { corner_count given.kind * corner_count given.kind ≤ length out.old }
+        ensures same_tables { SameTables self.old self.new }
         ensures both_met { BothMet given.entry.base self.old self.new
             (part_keys (edges_of given.entry.kind) cell.now) (part_keys (faces_of given.entry.kind) cell.now) }
         ensures cell_split { CellSplit given.entry.base self.old given.entry.kind cell.now own out.old out.new }
@@ -134,6 +136,7 @@ impl<'a> PartTables<'a> {
             (edges_met given.kind (cells_in given.kind cells.now)) (faces_met given.kind (cells_in given.kind cells.now)) }
         requires own_bound { own + length cells.now / corner_count given.kind ≤ 2 ^ 32 }
         requires children_in_bounds { corner_count given.kind * (corner_count given.kind * (length cells.now / corner_count given.kind)) ≤ length out.old }
+        ensures same_tables { SameTables self.old self.new }
         ensures both_met { BothMet given.entry.base self.old self.new
             (edges_met given.entry.kind (cells_in given.entry.kind cells.now)) (faces_met given.entry.kind (cells_in given.entry.kind cells.now)) }
         ensures table_split { TableSplit given.entry.base self.old given.entry.kind cells.now own out.old out.new }
@@ -162,6 +165,7 @@ impl<'a> PartTables<'a> {
         requires faces_bound { base.vertices + base.edges + base.faces ≤ 2 ^ 32 }
         requires own_bound { own + length cells.now / corner_count kind ≤ 2 ^ 32 }
         requires children_in_bounds { corner_count kind * (corner_count kind * (length cells.now / corner_count kind)) ≤ length out.old }
+        ensures same_tables { SameTables self.old self.new }
         ensures both_met { BothMet base self.old self.new (edges_met kind (cells_in kind cells.now)) (faces_met kind (cells_in kind cells.now)) }
         ensures table_split { TableSplit base self.old kind cells.now own out.old out.new }
     {
