@@ -1,7 +1,7 @@
 // A cell's fine vertices, numbered as its edges and faces are met, and its children. Edges and faces have a table each, in words of their own.
 ghost use Rattle.std.specs.Prelude.{◌≡◌, ◌+◌, ◌*◌, ◌/◌, ◌^◌, ◌≤◌, ◌<◌, length};
 ghost use Rattle.rules.specs.Lists.{meet_all};
-ghost use Rattle.numbering.specs.Table.{keys, Table};
+ghost use Rattle.numbering.specs.Table.{words_for, keys, Table};
 ghost use Rattle.numbering.specs.Parts.{part_keys, Within, listed_keys, Numbered};
 ghost use Rattle.splitting.specs.Kinds.{corner_count, edges_of, faces_of};
 ghost use Rattle.splitting.specs.Cells.{cells_in, edges_met, faces_met};
@@ -50,11 +50,14 @@ fn number_parts<const C: usize>(
 }
 
 impl<'a> PartTables<'a> {
-    // Two tables of no key in these words, with room for the edges and for the faces of the mesh.
+    // Two tables of no key in these words, with room for the edges and for the faces of the mesh. That the words end as what both lists leave is not
+    // said: such a clause is proved only of a function that returns the two slices themselves, and not a struct of them.
     pub fn new(words: &'a mut [u32], base: Base) -> PartTables<'a>
         requires words_fit { table_words base.edges base.faces ≤ length words.old }
         requires few { (base.edges + 1 < 2 ^ 32) × (base.faces + 1 < 2 ^ 32) }
-        ensures { NoneMet base result }
+        ensures none_met { NoneMet base result }
+        ensures edge_len { length result.edge_words.now ≡ words_for 2 base.edges }
+        ensures face_len { length result.face_words.now + words_for 2 base.edges ≡ length words.old }
     {
         let (edge_words, face_words) = words.split_at_mut(table::size(base.edges, 2));
         table::prepare(edge_words, base.edges);
