@@ -2,7 +2,7 @@
 use mathlib.Core.Path.{◌≡◌, refl, sym, ap, ◌∙◌}
 use mathlib.Core.List.{List, [], ◌∷◌, ◌++◌, map, append_assoc, append-nil}
 use Prim.Native.Nat.{ℕ, suc, ◌+◌, ◌*◌, ◌/◌, ◌-◌, ◌≤◌, ◌<◌}
-use native.Mathlib.Nat.{mul-div-le, mul-le-mul_left, div-lt_iff_lt-mul}
+use native.Mathlib.Nat.{div-lt_iff_lt-mul}
 use Rattle.std.proofs.lemmas.Nat.{le-div}
 use native.Mathlib.Numerals.{add-one}
 use native.Mathlib.Omega.{arith}
@@ -36,10 +36,6 @@ length_later known xs ys =
     omega (arith, ap length (meet_all_append known xs ys ∙ r.1) ∙ length-append (meet_all known xs) r.0)
 
 -- ---- a cell of a flat table
-
--- where entry i of k elements ends
-pub entry_end : (k i : ℕ) (xs : List ℕ) → i < length xs / k → k * i + k ≤ length xs
-entry_end k i xs l = omega (arith, mul-div-le (length xs) k, mul-le-mul_left k l)
 
 -- what is lent of the table
 pub entry_is : (k i : ℕ) (xs : List ℕ) → i < length xs / k → take (k * i + k - k * i) (drop (k * i) xs) ≡ get_or (cut k xs) i []

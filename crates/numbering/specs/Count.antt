@@ -1,8 +1,13 @@
 -- Words of inner contracts: what counting distinct keys answers.
-use Rattle.std.specs.Prelude.{◌≡◌, List, ◌++◌, ℕ, length, Option, Some, None}
+use Rattle.std.specs.Prelude.{◌≡◌, List, ◌++◌, ℕ, ◌+◌, ◌-◌, ◌/◌, ◌^◌, min, length, Option, Some, None}
 use Rattle.rules.specs.Lists.{Key, distinct}
 use Rattle.numbering.specs.declared.parts.Parts.TheVariants.{HexEdges, HexFaces, QuadEdges, Quads, Segments}
 use Rattle.numbering.specs.Parts.{table_keys}
+
+-- The keys of c numbers, with `beside` more words for each, that so many words have room for: `most` are enough, and a link has 32 bits. One word
+-- is the head of a slot more than there are keys.
+abbrev pub room_of : ℕ → ℕ → ℕ → ℕ → ℕ
+room_of words c beside most = min (min ((words - 1) / (c + 2 + beside)) most) (2 ^ 32 - 2)
 
 -- a count is that of the distinct keys; that there is no room for them says nothing
 abbrev pub CountOf : List Key → Option ℕ → Type 0

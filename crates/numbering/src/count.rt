@@ -2,7 +2,7 @@
 ghost use Rattle.std.specs.Prelude.{◌≡◌, ◌+◌, ◌*◌, ◌^◌, ◌≤◌, ◌<◌, length, MatchOption};
 ghost use Rattle.numbering.specs.Table.{words_for, Table};
 ghost use Rattle.numbering.specs.Parts.{part_corners, table_keys};
-ghost use Rattle.numbering.specs.Count.{CountOf, edge_keys};
+ghost use Rattle.numbering.specs.Count.{room_of, CountOf, edge_keys};
 
 use crate::parts::Parts;
 use crate::{parts, table};
@@ -16,14 +16,16 @@ pub fn room_in(words: usize, size: usize, most: usize) -> usize
     ((words - 1) / size).min(most).min(4294967294)
 }
 
-// The same for keys of c numbers, with `beside` more words for each key: what `table::size` says, the other way round.
+// The same for keys of c numbers, with `beside` more words for each key: what `table::size` says, the other way round. It says how many, and so
+// does not call `room_in`, which says only that they are not too many.
 pub fn room_for(words: usize, c: usize, beside: usize, most: usize) -> usize
     requires some_word { 0 < words }
     requires short { c + 2 + beside < 2 ^ 64 }
+    ensures room { result ≡ room_of words c beside most }
     ensures fits { words_for c result + beside * result ≤ words }
     ensures few { result + 1 < 2 ^ 32 }
 {
-    room_in(words, c + 2 + beside, most)
+    ((words - 1) / (c + 2 + beside)).min(most).min(4294967294)
 }
 
 // Makes an empty table of keys of c numbers with room for `most`, or for as many as the memory holds; the answer is its room, or `None` where

@@ -13,6 +13,7 @@ use Rattle.lists.proofs.Membership.{length_up_from}
 use Rattle.lists.proofs.Distinct.{meet_all_append}
 use Rattle.lists.proofs.Tables.{length_cut}
 use Rattle.memory.proofs.Stores.{sets_append, sets_front}
+use Rattle.tables.proofs.Slices.{same_slice, still_same}
 use Rattle.numbering.specs.Table.{keys, MetAll}
 use Rattle.numbering.specs.Parts.{part_keys}
 use Rattle.numbering.proofs.Firsts.{up_from_snoc}
@@ -22,7 +23,7 @@ use Rattle.splitting.specs.declared.given.Base.{Base}
 use Rattle.splitting.specs.declared.cells.PartTables.{PartTables}
 use Rattle.splitting.specs.Kinds.{kind_of, corner_count, edges_of, faces_of}
 use Rattle.splitting.specs.Cells.{cells_in, entry_of, edges_met, faces_met, cell_numbers, child_corners, first_children}
-use Rattle.splitting.specs.Words.{edges_in, faces_in, numbers_at, children_in, Room, BothMet, TableSplit}
+use Rattle.splitting.specs.Words.{edges_in, faces_in, numbers_at, children_in, SameTables, Room, BothMet, TableSplit}
 use Rattle.splitting.proofs.Tables.{children_length}
 
 -- ---- keys: f gives those of a cell
@@ -79,12 +80,17 @@ first_length kind eb es fb fs own cells n =
 -- ---- the first i cells of a table have been split
 
 pub record Walked (base : Base) (t₀ t : PartTables) (kind : CellKind) (cells : List ℕ) (own : ℕ) (old new : List ℕ) (i : ℕ) : Type 0 where
+  pub same_tables : SameTables t₀ t
   pub met : BothMet base t₀ t (edges_met kind (take i (cells_in kind cells))) (faces_met kind (take i (cells_in kind cells)))
   pub stored : (es fs : List Key) → new ≡ sets old 0 (children_in base t₀ kind cells own es fs i)
 
 pub walk_start : (base : Base) (t : PartTables) (kind : CellKind) (cells : List ℕ) (own : ℕ) (old : List ℕ) (es fs : List Key) → Room base t es fs → Walked base t t kind cells own old old 0
 unfolding concat_map up_from first_children
-walk_start base t kind cells own old es fs r = record { met = record { edges = met_none r.edge_table; faces = met_none r.face_table }; stored = λ es fs. refl }
+walk_start base t kind cells own old es fs r = record {
+  same_tables = record { edge_words = same_slice t.edge_words; face_words = same_slice t.face_words };
+  met = record { edges = met_none r.edge_table; faces = met_none r.face_table };
+  stored = λ es fs. refl;
+}
 
 module _ {base : Base} {t₀ t : PartTables} {kind : CellKind} {cells : List ℕ} {own : ℕ} {old new : List ℕ} {i : ℕ} (p : Walked base t₀ t kind cells own old new i) where
   module _ (l : i < length cells / corner_count kind) where
@@ -101,9 +107,10 @@ module _ {base : Base} {t₀ t : PartTables} {kind : CellKind} {cells : List ℕ
     }
 
     -- the next cell was split
-    pub walk_turn : {t' : PartTables} {new' : List ℕ} → BothMet base t t' (part_keys (edges_of kind) (entry_of kind cells i)) (part_keys (faces_of kind) (entry_of kind cells i)) → ((es fs : List Key) → new' ≡ sets new (corner_count kind * (corner_count kind * i)) (child_corners (kind_of kind) (numbers_at base t kind (entry_of kind cells i) (own + i) es fs))) → Walked base t₀ t' kind cells own old new' (i + 1)
+    pub walk_turn : {t' : PartTables} {new' : List ℕ} → SameTables t t' → BothMet base t t' (part_keys (edges_of kind) (entry_of kind cells i)) (part_keys (faces_of kind) (entry_of kind cells i)) → ((es fs : List Key) → new' ≡ sets new (corner_count kind * (corner_count kind * i)) (child_corners (kind_of kind) (numbers_at base t kind (entry_of kind cells i) (own + i) es fs))) → Walked base t₀ t' kind cells own old new' (i + 1)
     unfolding first_children
-    walk_turn {t'} {new'} m s = record {
+    walk_turn {t'} {new'} q m s = record {
+      same_tables = record { edge_words = still_same p.same_tables.edge_words q.edge_words; face_words = still_same p.same_tables.face_words q.face_words };
       met = record {
         edges = next_met (part_keys (edges_of kind)) (cells_in kind cells) i listed p.met.edges m.edges;
         faces = next_met (part_keys (faces_of kind)) (cells_in kind cells) i listed p.met.faces m.faces;

@@ -1,6 +1,7 @@
 -- Words of inner contracts: the two tables, of the edges and of the faces, while cells are walked.
 use Rattle.std.specs.Prelude.{◌≡◌, List, ◌++◌, ℕ, ◌+◌, ◌/◌, ◌≤◌, length}
 use Rattle.rules.specs.Lists.{overwritten, Key, meet_all}
+use Rattle.tables.specs.Lent.{SameSlice}
 use Rattle.numbering.specs.Table.{keys, Table, MetAll}
 use Rattle.numbering.specs.Parts.{part_keys}
 use Rattle.splitting.specs.declared.kinds.CellKind.{CellKind}
@@ -8,6 +9,11 @@ use Rattle.splitting.specs.declared.given.Base.{Base}
 use Rattle.splitting.specs.declared.cells.PartTables.{PartTables}
 use Rattle.splitting.specs.Kinds.{kind_of, corner_count, edges_of, faces_of}
 use Rattle.splitting.specs.Cells.{cells_in, edges_met, faces_met, cell_numbers, child_corners, first_children}
+
+-- a call returns the very words of both tables that it was lent
+pub record SameTables (old new : PartTables) : Type 0 where
+  pub edge_words : SameSlice old.edge_words new.edge_words
+  pub face_words : SameSlice old.face_words new.face_words
 
 -- the edges and the faces met so far
 abbrev pub edges_in : Base → PartTables → List Key

@@ -1,12 +1,12 @@
 // A cell's fine vertices, numbered as its edges and faces are met, and its children. Edges and faces have a table each, in words of their own.
 ghost use Rattle.std.specs.Prelude.{◌≡◌, ◌+◌, ◌*◌, ◌/◌, ◌^◌, ◌≤◌, ◌<◌, length};
 ghost use Rattle.rules.specs.Lists.{meet_all};
-ghost use Rattle.numbering.specs.Table.{keys, Table};
+ghost use Rattle.numbering.specs.Table.{words_for, keys, Table};
 ghost use Rattle.numbering.specs.Parts.{part_keys, Within, listed_keys, Numbered};
 ghost use Rattle.splitting.specs.Kinds.{corner_count, edges_of, faces_of};
 ghost use Rattle.splitting.specs.Cells.{cells_in, edges_met, faces_met};
 ghost use Rattle.splitting.specs.Ready.{table_words};
-ghost use Rattle.splitting.specs.Words.{NoneMet, Room, BothMet, CellNumbered, CellSplit, TableSplit};
+ghost use Rattle.splitting.specs.Words.{SameTables, NoneMet, Room, BothMet, CellNumbered, CellSplit, TableSplit};
 
 use crate::given::{Base, Setting};
 use crate::kinds::CellKind;
@@ -22,9 +22,9 @@ pub struct Known {
 // The tables of the edges and of the faces that have been met.
 #[derive(Drop)]
 pub struct PartTables<'a> {
-    edge_words: &'a mut [u32],
-    face_words: &'a mut [u32],
-    known: Known,
+    pub edge_words: &'a mut [u32],
+    pub face_words: &'a mut [u32],
+    pub known: Known,
 }
 
 // Meets the parts of a cell, of C corners each, in a table that has room for them all. The parameters are those of `meet_parts`: the words, the
@@ -50,11 +50,14 @@ fn number_parts<const C: usize>(
 }
 
 impl<'a> PartTables<'a> {
-    // Two tables of no key in these words, with room for the edges and for the faces of the mesh.
+    // Two tables of no key in these words, with room for the edges and for the faces of the mesh. That the words end as what both lists leave is not
+    // said: such a clause is proved only of a function that returns the two slices themselves, and not a struct of them.
     pub fn new(words: &'a mut [u32], base: Base) -> PartTables<'a>
         requires words_fit { table_words base.edges base.faces ≤ length words.old }
         requires few { (base.edges + 1 < 2 ^ 32) × (base.faces + 1 < 2 ^ 32) }
-        ensures { NoneMet base result }
+        ensures none_met { NoneMet base result }
+        ensures edge_len { length result.edge_words.now ≡ words_for 2 base.edges }
+        ensures face_len { length result.face_words.now + words_for 2 base.edges ≡ length words.old }
     {
         let (edge_words, face_words) = words.split_at_mut(table::size(base.edges, 2));
         table::prepare(edge_words, base.edges);
@@ -73,6 +76,7 @@ impl<'a> PartTables<'a> {
         requires room { Room given.base self.old (part_keys (edges_of given.kind) cell.now) (part_keys (faces_of given.kind) cell.now) }
         requires cell_len { length cell.now ≡ corner_count given.kind }
         requires own_bound { own < 2 ^ 32 }
+        ensures same_tables { SameTables self.old self.new }
         ensures both_met { BothMet given.entry.base self.old self.new
             (part_keys (edges_of given.entry.kind) cell.now) (part_keys (faces_of given.entry.kind) cell.now) }
         ensures cell_numbered { CellNumbered given.entry.base self.old given.entry.kind cell.now own numbers.old numbers.new }
@@ -119,6 +123,7 @@ impl<'a> PartTables<'a> {
         requires cell_len { length cell.now ≡ corner_count given.kind }
         requires own_bound { own < 2 ^ 32 }
         requires children_in_bounds { corner_count given.kind * corner_count given.kind ≤ length out.old }
+        ensures same_tables { SameTables self.old self.new }
         ensures both_met { BothMet given.entry.base self.old self.new
             (part_keys (edges_of given.entry.kind) cell.now) (part_keys (faces_of given.entry.kind) cell.now) }
         ensures cell_split { CellSplit given.entry.base self.old given.entry.kind cell.now own out.old out.new }
@@ -134,6 +139,7 @@ impl<'a> PartTables<'a> {
             (edges_met given.kind (cells_in given.kind cells.now)) (faces_met given.kind (cells_in given.kind cells.now)) }
         requires own_bound { own + length cells.now / corner_count given.kind ≤ 2 ^ 32 }
         requires children_in_bounds { corner_count given.kind * (corner_count given.kind * (length cells.now / corner_count given.kind)) ≤ length out.old }
+        ensures same_tables { SameTables self.old self.new }
         ensures both_met { BothMet given.entry.base self.old self.new
             (edges_met given.entry.kind (cells_in given.entry.kind cells.now)) (faces_met given.entry.kind (cells_in given.entry.kind cells.now)) }
         ensures table_split { TableSplit given.entry.base self.old given.entry.kind cells.now own out.old out.new }
@@ -162,6 +168,7 @@ impl<'a> PartTables<'a> {
         requires faces_bound { base.vertices + base.edges + base.faces ≤ 2 ^ 32 }
         requires own_bound { own + length cells.now / corner_count kind ≤ 2 ^ 32 }
         requires children_in_bounds { corner_count kind * (corner_count kind * (length cells.now / corner_count kind)) ≤ length out.old }
+        ensures same_tables { SameTables self.old self.new }
         ensures both_met { BothMet base self.old self.new (edges_met kind (cells_in kind cells.now)) (faces_met kind (cells_in kind cells.now)) }
         ensures table_split { TableSplit base self.old kind cells.now own out.old out.new }
     {

@@ -2,8 +2,8 @@ use Rattle.std.proofs.Common.{refl, arith}
 use Rattle.numbering.proofs.Entries.{table_prepared}
 use Rattle.splitting.proofs.cells.PartTables.new.Goals as goal
 
-pub returns : goal.returns
-returns c =
+pub returns-clause-none_met : goal.returns-clause-none_met
+returns-clause-none_met c =
     let h = c.split_at_mut-edge_words in
     let b = c.args.base in
     record {

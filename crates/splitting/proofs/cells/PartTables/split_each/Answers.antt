@@ -35,7 +35,7 @@ loop-i-preserved c =
     let a = k * (k * l.i) in
     let h = mul-le-mul_left k (mul-le-mul_left k u) in
     rw c.corner_count-corners.ensures
-    (walk_turn l.invariant u met
+    (walk_turn l.invariant u d.same_tables met
     (λ es fs.
     let ns = numbers_at x.given.base l.self kind (entry_of kind x.cells.now l.i) (x.own + l.i) es fs in
     ap (λ (v : List ℕ). put_mid a (length l.out - a) l.out v) (stored es fs)
@@ -48,4 +48,4 @@ returns c =
     let v = rw c.corner_count-corners.ensures at c.loop-i.auto.i-end in
     let e : l.i ≡ length c.args.cells.now / corner_count c.args.given.kind = omega (arith, u, v) in
     let w = walk_end l.invariant e c.requires.children_in_bounds in
-    record { both_met = w.0; table_split = w.1 }
+    record { same_tables = l.invariant.same_tables; both_met = w.0; table_split = w.1 }
