@@ -138,6 +138,16 @@ module _ {c : ℕ} {w ys : List ℕ} {room n number count : ℕ} (k : Key) (t : 
         others = λ d i. behind_is size w ys l d;
       }
 
+  -- a key that was known leaves as many keys as there were
+  pub tagged_known : count ≤ n → Tagged c after room n
+  tagged_known h =
+      let size = words_for c room in
+      let same : count ≡ n = counted ∙ ap length (meet_known k old (known h)) ∙ length_keys c (front c room w) room n in
+      record {
+        fits = rw (whole_length size w ys l size_le) tagged.fits;
+        table = rw (front_is size w ys l, ← same) met.table;
+      }
+
   -- it has another tag
   pub differed : count ≤ n → (get_or after (words_for c room + number) 0 ≡ t → ⊥) → Differed c w room n k t
   differed h no-match = record {
