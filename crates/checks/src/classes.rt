@@ -118,7 +118,7 @@ impl<'a, const C: usize> Walked<'a, C> {
     }
 
     // Goes over one class, of so many that are walked in all; the answer is how many corner sets it has.
-    #[tactic(auto, using(crate::proofs::Sweeps::sweep_start, crate::proofs::Sweeps::sweep_tagged, crate::proofs::Sweeps::sweep_turn, crate::proofs::Sweeps::sweep_end, crate::proofs::Sweeps::sweep_stops))]
+    #[tactic(auto, using(crate::proofs::Sweeps::sweep_start, crate::proofs::Sweeps::sweep_turn, crate::proofs::Sweeps::sweep_end, crate::proofs::Sweeps::sweep_stops))]
     fn sweep(self, w: &mut [u32], class: Class) -> Result<usize, Stopped>
         requires { 0 < length w.old }
         ensures { let ps = keep (in_class class.count class.number) (walked self.entry.of C) in Found self.entry.of ps result }

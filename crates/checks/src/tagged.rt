@@ -1,5 +1,6 @@
 // A table of keys in lent memory with a tag for each key: 3 numbers more than a key has, and one more for all.
 ghost use Rattle.std.specs.Prelude.{◌≡◌, ◌≤◌, ◌<◌, length};
+ghost use Rattle.rules.specs.Lists.{key_of};
 ghost use Rattle.checks.specs.Tagged.{Tagged};
 
 use numbering::{count, keys, table};
@@ -21,7 +22,6 @@ pub struct TaggedKeys<'a, const C: usize> {
 }
 
 impl<'a, const C: usize> TaggedKeys<'a, C> {
-    ghost use Rattle.rules.specs.Lists.{key_of};
     ghost use Rattle.checks.specs.TaggedKeys.{SameTable, KeyMet};
 
     // A table of no key with room for `most` keys, or for as many as the memory holds.
@@ -43,6 +43,7 @@ impl<'a, const C: usize> TaggedKeys<'a, C> {
     }
 
     // Meets a key with a tag.
+    #[tactic(auto, using(crate::proofs::TaggedLaws::meets_new, crate::proofs::TaggedLaws::meets_known))]
     pub fn meet(&mut self, key: [u32; C], tag: u32) -> Result<(), Stopped>
         ensures same_table { SameTable self.old self.new }
         ensures met { KeyMet self.old self.new key.entry tag result }
@@ -63,11 +64,7 @@ impl<'a, const C: usize> TaggedKeys<'a, C> {
     }
 
     // Meets the key of some corners. Their count is a constant: so no loop over a key is left.
-    pub fn meet_corners(
-        &mut self,
-        corners: [u32; C],
-        tag: u32,
-    ) -> Result<(), Stopped>
+    pub fn meet_corners(&mut self, corners: [u32; C], tag: u32) -> Result<(), Stopped>
         ensures same_table { SameTable self.old self.new }
         ensures met { KeyMet self.old self.new (key_of corners.entry) tag result }
     {
