@@ -21,7 +21,7 @@ use Rattle.std.specs.Prelude.{Result, Ok, Err}
 use Rattle.checks.specs.declared.tagged.Stopped.{Stopped}
 use Rattle.checks.specs.declared.tagged.Stopped.TheVariants.{Differs, Full}
 use Rattle.checks.specs.declared.classes.Walk.{Walk}
-use Rattle.checks.specs.Tagged.{front, beside, Tagged, Agreed, Differed}
+use Rattle.checks.specs.Tagged.{front, beside, Agreed, Differed}
 use Rattle.checks.specs.Classes.{tag_for, class_of, in_class, ClassMet, Agreeing, Apart, Found}
 use Rattle.checks.proofs.ClassLaws.{class_key, class_below, class_distinct, keep_below, keep_next, keep_none, keep_all}
 use Rattle.checks.proofs.Slices.{take_in}
@@ -30,7 +30,6 @@ use Rattle.checks.proofs.Slices.{take_in}
 
 -- the keys of ps were met, each with its tag
 record Swept (of : Walk) (ps : List (List ℕ)) (c : ℕ) (w : List ℕ) (room n : ℕ) : Type 0 where
-  tagged : Tagged c w room n
   keys_are : keys c (front c room w) room n ≡ distinct (map key_of ps)
   agree : (p : List ℕ) → In p ps → beside c room w (index_of (key_of p) (distinct (map key_of ps))) ≡ tag_for of p
 
@@ -38,7 +37,6 @@ module _ {of : Walk} {ps : List (List ℕ)} {c : ℕ} {w : List ℕ} {room n : �
   swept_turn : {w' : List ℕ} {count : ℕ} (p : List ℕ) → Agreed c w w' room n count (key_of p) (tag_for of p) → Swept of (ps ++ (p ∷ [])) c w' room count
   swept_turn {w'} {count} p a =
       record {
-        tagged = a.tagged;
         keys_are = next;
         agree = λ q j. ⊎_elim (before q) (λ (i : In q (p ∷ [])). ⊎_elim (λ (e : q ≡ p). rw (e, ← next) a.own) absurd i) (in_append q ps (p ∷ []) j);
       }
@@ -110,14 +108,9 @@ pub record Sweeping (of : Walk) (class : List ℕ → Bool) (ps : List (List ℕ
   pub below : i ≤ length ps
   swept : Swept of (keep class (take i ps)) c w room n
 
-pub sweep_tagged : {of : Walk} {class : List ℕ → Bool} {ps : List (List ℕ)} {c : ℕ} {w : List ℕ} {room n i : ℕ} → Sweeping of class ps c w room n i
-    → Tagged c w room n
-sweep_tagged s = s.swept.tagged
-
-pub sweep_start : (of : Walk) (class : List ℕ → Bool) (ps : List (List ℕ)) {c : ℕ} {w : List ℕ} {room : ℕ} → Tagged c w room 0
-    → Sweeping of class ps c w room 0 0
+pub sweep_start : (of : Walk) (class : List ℕ → Bool) (ps : List (List ℕ)) (c : ℕ) (w : List ℕ) (room : ℕ) → Sweeping of class ps c w room 0 0
 unfolding keys up_from distinct meet_all keep
-sweep_start of class ps t = record { below = omega arith; swept = record { tagged = t; keys_are = refl; agree = λ p i. absurd i } }
+sweep_start of class ps c w room = record { below = omega arith; swept = record { keys_are = refl; agree = λ p i. absurd i } }
 
 module _ {of : Walk} {class : List ℕ → Bool} {ps : List (List ℕ)} {c : ℕ} {w : List ℕ} {room n i : ℕ} (s : Sweeping of class ps c w room n i) (l : i < length ps) where
   abbrev this : List ℕ

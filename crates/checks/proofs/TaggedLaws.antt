@@ -108,7 +108,7 @@ module _ {c : ℕ} {w ys : List ℕ} {room n number count : ℕ} (k : Key) (t : 
   number_within = rw (whole_length (words_for c room) w ys l size_le) (omega (arith, met.known, met.table.used, tagged.fits))
 
   -- the key is new, and t becomes its tag
-  pub agreed_new : n < count → Agreed c w (set after (words_for c room + number) t) room n count k t
+  agreed_new : n < count → Agreed c w (set after (words_for c room + number) t) room n count k t
   agreed_new h =
       let size = words_for c room in
       let same_front : front c room (set after (size + number) t) ≡ ys = take-set-le size after (size + number) t (omega arith)
@@ -124,7 +124,7 @@ module _ {c : ℕ} {w ys : List ℕ} {room n number count : ℕ} (k : Key) (t : 
       }
 
   -- its tag is t already
-  pub agreed_known : get_or after (words_for c room + number) 0 ≡ t → Agreed c w after room n count k t
+  agreed_known : get_or after (words_for c room + number) 0 ≡ t → Agreed c w after room n count k t
   agreed_known e =
       let size = words_for c room in
       let same_front : front c room after ≡ ys = front_is size w ys l in
@@ -138,10 +138,42 @@ module _ {c : ℕ} {w ys : List ℕ} {room n number count : ℕ} (k : Key) (t : 
         others = λ d i. behind_is size w ys l d;
       }
 
+  -- a key that was known leaves as many keys as there were
+  tagged_known : count ≤ n → Tagged c after room n
+  tagged_known h =
+      let size = words_for c room in
+      let same : count ≡ n = counted ∙ ap length (meet_known k old (known h)) ∙ length_keys c (front c room w) room n in
+      record {
+        fits = rw (whole_length size w ys l size_le) tagged.fits;
+        table = rw (front_is size w ys l, ← same) met.table;
+      }
+
   -- it has another tag
-  pub differed : count ≤ n → (get_or after (words_for c room + number) 0 ≡ t → ⊥) → Differed c w room n k t
+  differed : count ≤ n → (get_or after (words_for c room + number) 0 ≡ t → ⊥) → Differed c w room n k t
   differed h no-match = record {
     known = known h;
     other = λ q. no-match (behind_is (words_for c room) w ys l number
         ∙ ap (λ (e : ℕ). beside c room w e) (met.number_is ∙ ap (index_of k) (kept h)) ∙ q);
   }
+
+-- ---- the same as the call says it: the front is `size` words, the key's length stands for c
+
+module _ {c size room n number count : ℕ} {w ys : List ℕ} {k : Key} (t : ℕ) (tagged : Tagged c w room n) (size_is : size ≡ words_for c room)
+    (key_is : length k ≡ c) (met : Met (length k) (take size w) ys room n k number count) (kept : length ys ≡ length (take size w)) where
+  front_met : Met c (front c room w) ys room n k number count
+  front_met = rw (key_is, size_is) at met
+
+  front_kept : length ys ≡ words_for c room
+  front_kept = kept ∙ rw size_is (length-take-le (words_for c room) w (omega (arith, tagged.fits)))
+
+  pub meets_new : n < count → Agreed c w (set (ys ++ drop size w) (size + number) t) room n count k t
+  meets_new h = rw size_is (agreed_new k t tagged front_met front_kept h)
+
+  pub meets_known : get_or (ys ++ drop size w) (size + number) 0 ≡ t → Agreed c w (ys ++ drop size w) room n count k t
+  meets_known e = rw size_is (agreed_known k t tagged front_met front_kept (rw size_is at e))
+
+  pub stays_tagged : count ≤ n → Tagged c (ys ++ drop size w) room n
+  stays_tagged h = rw size_is (tagged_known k t tagged front_met front_kept h)
+
+  pub meets_other : count ≤ n → (get_or (ys ++ drop size w) (size + number) 0 ≡ t → ⊥) → Differed c w room n k t
+  meets_other h e = differed k t tagged front_met front_kept h (rw size_is at e)

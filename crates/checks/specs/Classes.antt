@@ -65,8 +65,8 @@ pub record ClassMet (class : List ℕ → Bool) (p : List ℕ) (c : ℕ) (w w' :
   pub outside : class p ≡ false → Skipped w w' n r
 
 -- the same of a table as a value
-abbrev pub CornersMet : (List ℕ → Bool) → ℕ → TaggedKeys → TaggedKeys → List ℕ → ℕ → Result (Unit {0}) Stopped → Type 0
-CornersMet class c old new p t r = ClassMet class p c old.words.now new.words.now old.room old.known t (counted r new.known)
+abbrev pub CornersMet : {c : ℕ} → (List ℕ → Bool) → TaggedKeys c → TaggedKeys c → List ℕ → ℕ → Result (Unit {0}) Stopped → Type 0
+CornersMet {c} class old new p t r = ClassMet class p c old.words.now new.words.now old.room old.known t (counted r new.known)
 
 -- ---- what is found
 

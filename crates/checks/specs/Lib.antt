@@ -7,6 +7,8 @@ pub mod Held
 pub mod Marked
 -- Tagged: a table of keys, with a tag for each.
 pub mod Tagged
+-- TaggedKeys: what meeting a key makes of such a table.
+pub mod TaggedKeys
 -- Classes: edges, faces or cells in classes.
 pub mod Classes
 -- Checked: what the checks of a mesh find.

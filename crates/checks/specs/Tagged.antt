@@ -4,7 +4,6 @@ use Rattle.std.specs.Prelude.{◌≡◌, Result, Ok, Err, List, ℕ, ◌+◌, �
 use Rattle.rules.specs.Lists.{Key, index_of, meet}
 use Rattle.lists.specs.Membership.{In}
 use Rattle.numbering.specs.Table.{words_for, keys, Table}
-use Rattle.checks.specs.declared.tagged.TaggedKeys.{TaggedKeys}
 use Rattle.checks.specs.declared.tagged.Stopped.{Stopped}
 use Rattle.checks.specs.declared.tagged.Stopped.TheVariants.{Differs, Full}
 
@@ -40,23 +39,7 @@ TagMet c w w' room n k t (Ok count) = Agreed c w w' room n count k t
 TagMet c w w' room n k t (Err Differs) = Differed c w room n k t
 TagMet c w w' room n k t (Err Full) = Unit {0}
 
--- ---- the same of a table as a value
-
--- it holds keys of c numbers and their tags
-abbrev pub Holds : ℕ → TaggedKeys → Type 0
-Holds c t = Tagged c t.words.now t.room t.known
-
--- the same table, whatever was met: its memory is the one that was lent, as long as it was
-pub record SameTable (old new : TaggedKeys) : Type 0 where
-  pub words : new.words.ghost_name ≡ old.words.ghost_name
-  pub len : length new.words.now ≡ length old.words.now
-  pub room : new.room ≡ old.room
-
 -- with how many keys there are then
 abbrev pub counted : Result (Unit {0}) Stopped → ℕ → Result ℕ Stopped
 counted (Ok u) n = Ok n
 counted (Err e) n = Err e
-
--- a key with a tag was met
-abbrev pub KeyMet : ℕ → TaggedKeys → TaggedKeys → Key → ℕ → Result (Unit {0}) Stopped → Type 0
-KeyMet c old new k t r = TagMet c old.words.now new.words.now old.room old.known k t (counted r new.known)

@@ -3,7 +3,7 @@
 // as many classes as it takes for the table of one to fit the memory.
 ghost use Rattle.std.specs.Prelude.{◌≡◌, [], ◌^◌, ◌≤◌, ◌<◌, length, get_or};
 ghost use Rattle.rules.specs.Lists.{keep};
-ghost use Rattle.checks.specs.Tagged.{Holds, SameTable};
+ghost use Rattle.checks.specs.TaggedKeys.{SameTable};
 ghost use Rattle.checks.specs.Classes.{walked, Size, tag_for, squared, class_of, in_class, CornersMet, Found};
 
 use crate::parts::Part;
@@ -104,12 +104,11 @@ impl<'a, const C: usize> Walked<'a, C> {
     }
 
     // Meets number i in a table if it is in the class.
-    fn meet(self, i: usize, class: Class, table: &mut TaggedKeys) -> Result<(), Stopped>
-        requires i_in_bounds { i < self.count }
-        requires holds { Holds C table.old }
+    fn meet(self, i: usize, class: Class, table: &mut TaggedKeys<C>) -> Result<(), Stopped>
+        requires { i < self.count }
         ensures same_table { SameTable table.old table.new }
         ensures met { let p = get_or (walked self.entry.of C) i [] in
-            CornersMet (in_class class.count class.number) C table.old table.new p (tag_for self.entry.of p) result }
+            CornersMet (in_class class.count class.number) table.old table.new p (tag_for self.entry.of p) result }
     {
         let corners = self.corners_at(i);
         if !class.holds(&corners) {
@@ -119,12 +118,12 @@ impl<'a, const C: usize> Walked<'a, C> {
     }
 
     // Goes over one class, of so many that are walked in all; the answer is how many corner sets it has.
-    #[tactic(auto, using(crate::proofs::Sweeps::sweep_start, crate::proofs::Sweeps::sweep_tagged, crate::proofs::Sweeps::sweep_turn, crate::proofs::Sweeps::sweep_end, crate::proofs::Sweeps::sweep_stops))]
+    #[tactic(auto, using(crate::proofs::Sweeps::sweep_start, crate::proofs::Sweeps::sweep_turn, crate::proofs::Sweeps::sweep_end, crate::proofs::Sweeps::sweep_stops))]
     fn sweep(self, w: &mut [u32], class: Class) -> Result<usize, Stopped>
         requires { 0 < length w.old }
         ensures { let ps = keep (in_class class.count class.number) (walked self.entry.of C) in Found self.entry.of ps result }
     {
-        let mut table = TaggedKeys::new(w, C, self.count);
+        let mut table = TaggedKeys::<C>::new(w, self.count);
         // No chain: its closure would change the table, and nothing would be known of it behind the chain.
         for i in 0..self.count {
             self.meet(i, class, &mut table)?;

@@ -1,7 +1,7 @@
 // A table of keys in lent memory with a tag for each key: 3 numbers more than a key has, and one more for all.
 ghost use Rattle.std.specs.Prelude.{◌≡◌, ◌≤◌, ◌<◌, length};
 ghost use Rattle.rules.specs.Lists.{key_of};
-ghost use Rattle.checks.specs.Tagged.{Holds, SameTable, KeyMet};
+ghost use Rattle.checks.specs.Tagged.{Tagged};
 
 use numbering::{count, keys, table};
 
@@ -12,26 +12,28 @@ pub enum Stopped {
     Full,
 }
 
-// The memory of a table, for how many keys it has room, and how many it has.
+// The memory of a table of keys of C numbers, for how many keys it has room, and how many it has.
 #[derive(Drop)]
-pub struct TaggedKeys<'a> {
+pub struct TaggedKeys<'a, const C: usize> {
     pub words: &'a mut [u32],
     pub room: usize,
     pub known: usize,
+    pub ghost holds: { Tagged C words.now room known },
 }
 
-impl<'a> TaggedKeys<'a> {
-    // A table of no key with room for `most` keys of c numbers, or for as many as the memory holds.
+impl<'a, const C: usize> TaggedKeys<'a, C> {
+    ghost use Rattle.checks.specs.TaggedKeys.{SameTable, KeyMet};
+
+    // A table of no key with room for `most` keys, or for as many as the memory holds.
     #[tactic(auto, using(crate::proofs::TaggedLaws::tagged_start))]
-    pub fn new(words: &'a mut [u32], c: usize, most: usize) -> TaggedKeys<'a>
-        requires { (0 < length words.old) × (c ≤ 8) }
+    pub fn new(words: &'a mut [u32], most: usize) -> TaggedKeys<'a, C>
+        requires { (0 < length words.old) × (C ≤ 8) }
         ensures same_words { result.words.ghost_name ≡ words.entry.ghost_name }
         ensures len { length result.words.now ≡ length words.old }
         ensures no_key { result.known ≡ 0 }
-        ensures holds { Holds c result }
     {
-        let room = count::room_for(words.len(), c, 1, most);
-        let size = table::size(room, c);
+        let room = count::room_for(words.len(), C, 1, most);
+        let size = table::size(room, C);
         table::prepare(&mut words[..size], room);
         TaggedKeys {
             words,
@@ -41,10 +43,10 @@ impl<'a> TaggedKeys<'a> {
     }
 
     // Meets a key with a tag.
-    pub fn meet<const C: usize>(&mut self, key: [u32; C], tag: u32) -> Result<(), Stopped>
-        requires { Holds C self.old }
+    #[tactic(auto, using(crate::proofs::TaggedLaws::meets_new, crate::proofs::TaggedLaws::meets_known))]
+    pub fn meet(&mut self, key: [u32; C], tag: u32) -> Result<(), Stopped>
         ensures same_table { SameTable self.old self.new }
-        ensures met { KeyMet C self.old self.new key.entry tag result }
+        ensures met { KeyMet self.old self.new key.entry tag result }
     {
         let size = table::size(self.room, C);
         let words = &mut *self.words;
@@ -62,14 +64,9 @@ impl<'a> TaggedKeys<'a> {
     }
 
     // Meets the key of some corners. Their count is a constant: so no loop over a key is left.
-    pub fn meet_corners<const C: usize>(
-        &mut self,
-        corners: [u32; C],
-        tag: u32,
-    ) -> Result<(), Stopped>
-        requires { Holds C self.old }
+    pub fn meet_corners(&mut self, corners: [u32; C], tag: u32) -> Result<(), Stopped>
         ensures same_table { SameTable self.old self.new }
-        ensures met { KeyMet C self.old self.new (key_of corners.entry) tag result }
+        ensures met { KeyMet self.old self.new (key_of corners.entry) tag result }
     {
         let mut key = corners;
         keys::sort(&mut key);

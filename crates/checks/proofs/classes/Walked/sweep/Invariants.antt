@@ -1,6 +1,6 @@
 -- What of the first i is in the class is met.
 use Rattle.checks.specs.Classes.{walked, in_class}
-use Rattle.checks.specs.Tagged.{SameTable}
+use Rattle.checks.specs.TaggedKeys.{SameTable}
 use Rattle.checks.proofs.Sweeps.{Sweeping}
 use Rattle.checks.proofs.classes.Walked.sweep.Given as goal
 

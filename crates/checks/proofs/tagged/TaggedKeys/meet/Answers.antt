@@ -1,28 +1,11 @@
-use Rattle.std.proofs.Common.{◌≡◌, length, arith, ◌∙◌}
-use lib.Seq.{length-take-le}
-use Rattle.numbering.specs.Table.{words_for}
-use Rattle.checks.proofs.TaggedLaws.{agreed_new, agreed_known, differed}
+use Rattle.std.proofs.Common.{arith}
+use Rattle.checks.proofs.TaggedLaws.{stays_tagged, meets_other}
 use Rattle.checks.proofs.tagged.TaggedKeys.meet.Goals as goal
-use Rattle.checks.proofs.tagged.TaggedKeys.meet.Goals.{then-self-met, else-self-met+else-words-at}
+
+pub invariant_of-self-then-words-at : goal.invariant_of-self-then-words-at
+invariant_of-self-then-words-at g c =
+    record { holds = stays_tagged c.args.tag c.args.self.now.holds c.size-size.ensures (omega arith) c.in-Some.ensures c.meet.auto.w c.if-self-met.false }
 
 pub returns-then-words-at-clause-met : goal.returns-then-words-at-clause-met
 returns-then-words-at-clause-met g c =
-    let t = c.args.self.now in
-    let size = c.size-size.ensures in
-    let long : length c.args.key ≡ g.row.C = omega arith in
-    let kept : length c.meet.new.w ≡ words_for g.row.C t.room =
-    c.meet.auto.w ∙ rw size (length-take-le (words_for g.row.C t.room) t.words.now (omega (arith, c.requires.fits))) in
-    differed c.args.key c.args.tag c.requires (rw (long, size) at c.in-Some.ensures) kept c.if-self-met.false (rw size at c.if-words-at.true)
-
-pub returns-clause-met : goal.returns-clause-met
-returns-clause-met g c =
-    let t = c.args.self.now in
-    let size = c.size-size.ensures in
-    let long : length c.args.key ≡ g.row.C = omega arith in
-    let kept : length c.meet.new.w ≡ words_for g.row.C t.room =
-    c.meet.auto.w ∙ rw size (length-take-le (words_for g.row.C t.room) t.words.now (omega (arith, c.requires.fits))) in
-    let met = rw (long, size) at c.in-Some.ensures in
-    elim c.if-self-met.branch [
-      | then-self-met w ↦ rw (w.self-is, size) (agreed_new c.args.key c.args.tag c.requires met kept w.if-self-met.true)
-      | else-self-met+else-words-at w ↦ rw (w.self-is, size) (agreed_known c.args.key c.args.tag c.requires met kept (rw size at w.if-words-at.false))
-    ]
+    meets_other c.args.tag c.args.self.now.holds c.size-size.ensures (omega arith) c.in-Some.ensures c.meet.auto.w c.if-self-met.false c.if-words-at.true
