@@ -57,11 +57,15 @@ impl<const N: usize> Gathered<N> {
         requires { axis < 3 }
         ensures { (result ≡ weighed N row.now (gathered_at self.now.corners axis)) × (result < 2 ^ 41) }
     {
-        let mut total = 0;
-        for (weight, corner) in row.iter().zip(&self.corners) {
-            total += u64::from(*weight) * corner[axis];
-        }
-        total
+        row.iter()
+            .zip(&self.corners)
+            .map(
+                |(weight, corner)| -> u64
+                    requires { (axis < 3) × (get_or corner.now axis 0 < 2 ^ 30) }
+                    ensures { (result ≡ weight.entry.now * get_or corner.entry.now axis 0) × (result ≤ 255 * 2 ^ 30) }
+                { u64::from(*weight) * corner[axis] },
+            )
+            .sum()
     }
 
     // The split positions of all corners of a child of a cell, summed, in eighths, on each axis.

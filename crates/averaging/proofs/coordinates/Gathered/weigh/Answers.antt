@@ -1,52 +1,56 @@
 -- A weight is below 256 and a coordinate below 2 ^ 30, so that the total of at most 8 corners is below 2 ^ 41.
-use Rattle.std.proofs.Common.{◌≡◌, ℕ, ◌+◌, ◌*◌, ◌≤◌, ◌<◌, ◌^◌, length, get_or, [], arith, sym, ap, ap₂, ◌∙◌, length-append, List}
-use Rattle.std.proofs.Math.Nat.{mul-le-mul}
-use Rattle.std.proofs.lemmas.Slice.Zip.{zip_turn, zip_end}
-use Rattle.averaging.specs.Pass.{weighed, gathered_at}
-use Rattle.averaging.proofs.Sums.{sum_to_zero, sum_to_more}
+use Rattle.std.proofs.Common.{◌≡◌, ℕ, List, ◌*◌, ◌≤◌, ◌<◌, ◌^◌, ◌∙◌, length, get_or, [], arith, rules, ap, min}
+use Rattle.std.specs.List.{zip}
+use Rattle.std.specs.Iterator.Adapters.{map_source}
+use Rattle.std.proofs.iter.Yields.{fronts}
+use Rattle.std.proofs.lemmas.List.{get_or_default}
+use Rattle.std.proofs.lemmas.Iterator.{YieldsList, zips, YieldsList-from_slice, YieldsList-from_zip, YieldsList-from_map}
+use Rattle.std.proofs.lemmas.Iterator.Adapters.{serves_from_places, fits_from_length, at_most_from_yields_List}
+use Rattle.std.proofs.lemmas.Iterator.Consumers.{YieldsList-at, sum_by_from_yields_List}
+use Rattle.std.proofs.lemmas.Slice.Zip.{length-zip, get_or-zip}
+use Rattle.averaging.specs.Pass.{weighed}
+use Rattle.averaging.proofs.Sums.{pairs_total, pairs_few}
 use Rattle.averaging.proofs.coordinates.Gathered.weigh.Given.{Over}
 use Rattle.averaging.proofs.coordinates.Gathered.weigh.Goals as goal
-use Rattle.averaging.proofs.coordinates.Gathered.weigh.Goals.{After-from}
+use Rattle.averaging.proofs.coordinates.Gathered.weigh.Goals.{After-map}
 
-product : (w x : ℕ) → w < 256 → x < 2 ^ 30 → w * x ≤ 255 * 2 ^ 30
-product w x h k = mul-le-mul {n₁ = w} {m₁ = x} {n₂ = 255} {m₂ = 2 ^ 30} (omega arith) (omega arith)
+-- the weights and corners side by side
+pairs : (g : Over) (c : After-map g) → YieldsList (zips fronts fronts) (λ p. (p.0.now, p.1.now)) (map_source c.map.result) (zip c.args.row.now c.args.self.now.corners)
+pairs g c =
+    YieldsList-at c.map.ensures.source
+    (YieldsList-from_zip (YieldsList-at c.zip.ensures.first (YieldsList-from_slice c.args.row.now c.iter.ensures.rest)) (YieldsList-from_slice c.args.self.now.corners c.zip.ensures.second.0))
 
--- the weight and the corner of this turn
-turn : (g : Over) (c : After-from g) → (length c.loop-weight.yielded < g.row.N) × (c.from.result ≡ get_or c.args.row.now (length c.loop-weight.yielded) 0) × (get_or c.in-Some.corner.now c.args.axis 0 ≡ gathered_at c.args.self.now.corners c.args.axis (length c.loop-weight.yielded))
-turn g c =
-    let t = zip_turn c.args.row.now c.args.self.now.corners c.loop-weight.yielded _ _ c.next.new.self _ (cc) (cc) c.loop-weight.yielded_by _ c.in-Some.is c.next.ensures.steps in
-    (omega (arith, t.0, c.told-row), c.from.ensures ∙ t.2 0, ap (λ (xs : List ℕ). get_or xs c.args.axis 0) (t.3 []))
+pub sum-requires-clause-can : goal.sum-requires-clause-can
+sum-requires-clause-can g c =
+    let row = c.args.row.now in
+    let corners = c.args.self.now.corners in (
+      (tt, tt),
+      serves_from_places (pairs g c) (λ x q h. search rules) (λ x k l e.
+          let n : k < g.row.N = omega (arith, l, length-zip row corners, c.told-row) in
+          let whole : k < length corners = omega (arith, n, c.args.self.now.whole) in
+          let here : x.1.now ≡ get_or corners k [] = ap (λ p. p.1) (e ∙ get_or-zip row corners k _ (omega (arith, n, c.told-row)) whole) ∙ get_or_default corners k _ [] whole in
+          rw (ap (λ w. w.0.now) c.map.ensures.closure, here) (c.requires, c.args.self.now.below k c.args.axis n c.requires)),
+    )
 
-small : (g : Over) (c : After-from g) → c.from.result * get_or c.in-Some.corner.now c.args.axis 0 ≤ 255 * 2 ^ 30
-small g c =
-    let t = turn g c in
-    product c.from.result _ (omega arith) (omega (arith, t.2, c.args.self.now.below _ c.args.axis t.0 c.requires))
+pub sum-requires-clause-fits : goal.sum-requires-clause-fits
+sum-requires-clause-fits g c =
+    let row = c.args.row.now in
+    let corners = c.args.self.now.corners in
+    let most : length (zip row corners) ≤ 8 = omega (arith, length-zip row corners, c.told-row, c.args.self.now.few) in
+    fits_from_length _ _ 8 _ (at_most_from_yields_List (pairs g c) most) c.map.ensures.closure (omega arith) (λ x r q k. search rules)
 
-pub loop-weight-init : goal.loop-weight-init
-loop-weight-init g c = record { can_next = (tt, tt); is_finite = tt; sum = sym (sum_to_zero _); small = omega arith }
-
-pub overflow_mul-total : goal.overflow_mul-total
-overflow_mul-total g c = record { fits = omega (arith, small g (goal.at.overflow_mul-total g c).After-from) }
-
-pub overflow_add-total : goal.overflow_add-total
-overflow_add-total g c =
-    let b = (goal.at.overflow_add-total g c).After-from in
-    record { fits = omega (arith, small g b, turn g b, c.loop-weight.invariant.small, c.args.self.now.few) }
-
-pub loop-weight-preserved : goal.loop-weight-preserved
-loop-weight-preserved g c =
-    let b = (goal.at.loop-weight-preserved g c).After-from in
-    let t = turn g b in
-    record {
-      can_next = (tt, tt);
-      is_finite = tt;
-      sum = rw length-append (ap₂ ◌+◌ c.loop-weight.invariant.sum (ap₂ ◌*◌ t.1 t.2) ∙ sym (sum_to_more (length c.loop-weight.yielded) _));
-      small = rw length-append (omega (arith, small g b, c.loop-weight.invariant.small));
-    }
-
+-- what the chain yields is each product, and as well each product cut to 255 * 2 ^ 30
 pub returns : goal.returns
 unfolding weighed
 returns g c =
-    let e = zip_end c.args.row.now c.args.self.now.corners c.loop-weight.yielded _ _ c.next.new.self _ (cc) (cc) c.loop-weight.yielded_by c.in-None.is c.next.ensures.steps in
-    let n : length c.loop-weight.yielded ≡ g.row.N = omega (arith, e, c.told-row, c.args.self.now.whole) in
-    (rw (← n) c.loop-weight.invariant.sum, omega (arith, n, c.loop-weight.invariant.small, c.args.self.now.few))
+    let row = c.args.row.now in
+    let corners = c.args.self.now.corners in
+    let at : List ℕ → ℕ = λ x. get_or x c.args.axis 0 in
+    let both = pairs g (goal.at.returns g c).After-map in
+    let product : ℕ × List ℕ → ℕ = λ p. p.0 * at p.1 in
+    let cut : ℕ × List ℕ → ℕ = λ p. min (product p) (255 * 2 ^ 30) in
+    let total = sum_by_from_yields_List product (zip row corners) _ _ c.sum.ensures.ran (YieldsList-from_map _ product both c.map.ensures.closure (λ x r q k. search rules)) in
+    let bounded = sum_by_from_yields_List cut (zip row corners) _ _ c.sum.ensures.ran (YieldsList-from_map _ cut both c.map.ensures.closure (λ x r q k. search rules)) in (
+      total ∙ rw (← c.told-row) (pairs_total at row corners [] (omega (arith, c.told-row, c.args.self.now.whole))),
+      omega (arith, bounded, pairs_few at (255 * 2 ^ 30) row corners, c.told-row, c.args.self.now.few),
+    )
