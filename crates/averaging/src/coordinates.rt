@@ -1,5 +1,5 @@
 // Coordinates counted from the least one, -2^29: sums of them are not negative, so that division rounds them toward minus infinity.
-ghost use Rattle.std.specs.Prelude.{◌≡◌, [], ℕ, ◌+◌, ◌*◌, ◌≤◌, ◌<◌, ◌^◌, length, get_or, pos, ◌+ℤ◌};
+ghost use Rattle.std.specs.Prelude.{◌≡◌, ℕ, ◌+◌, ◌*◌, ◌≤◌, ◌<◌, ◌^◌, length, get_or, pos, ◌+ℤ◌};
 ghost use Rattle.integers.specs.Range.{InRange};
 ghost use Rattle.averaging.specs.Pass.{biased, gathered_at, corner_coordinate, weighed, Known, Near};
 

@@ -7,7 +7,8 @@ ghost use Rattle.averaging.specs.Pass.{gathered_at, child_step, cell_step, table
 use crate::coordinates::Gathered;
 use crate::entries::entries;
 
-// The rank and the valence of each vertex, and its sums on the three axes.
+// The rank and the valence of each vertex, and its sums on the three axes: two slices, as C lends words and longs. That they have one length is
+// a part of `Spare`, which all that count ask for anyway, so it is no field of its own.
 #[derive(Drop)]
 pub struct Tallies<'a> {
     pub ranks: &'a mut [[u32; 2]],
@@ -25,7 +26,7 @@ impl Tallies<'_> {
         self.totals.fill([0; 3]);
     }
 
-    // A cell of dimension d counts for one of its corners.
+    // A cell of dimension d counts for one of its corners. The dimension is a number, since it is compared with ranks.
     #[tactic(auto, using(crate::proofs::Stores::valence_fits))]
     fn count_at(&mut self, vertex: usize, d: u32, sums: [u64; 3])
         requires room { (vertex < length self.old.ranks.now) × Spare 1 self.old }

@@ -1,6 +1,6 @@
 // The viewer's calls: a stored mesh in, one number out, which is a refusal's number below zero where there is a refusal. Tables of the
 // fixed sizes, 1,000 vertices and 256 cells of each kind, are local arrays.
-ghost use Rattle.std.specs.Prelude.{◌≡◌, true, ℕ, suc, ◌^◌, ◌<◌, length, take, replicate, pos, IfOk};
+ghost use Rattle.std.specs.Prelude.{◌≡◌, true, ℕ, suc, ◌^◌, ◌<◌, take, replicate, pos, IfOk};
 ghost use Rattle.rules.specs.Accuracy.{Property3};
 ghost use Rattle.rules.specs.Answers.{count_answer_of};
 ghost use Rattle.rules.specs.EntryPoints.{range_kept};

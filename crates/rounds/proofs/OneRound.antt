@@ -125,38 +125,41 @@ module _ {m : Mesh} {s : Sizes} {out : Mesh} {words longs : List ℕ} (ready : R
         points_fit = omega (arith, z.4, r.points);
       }
 
-  -- the places of the fine cells, and their numbers, in the code's terms
-  pub fine_places : (64 * s.hexes ≤ length out.hexes) × (16 * s.quads ≤ length out.quads) × (4 * s.segments ≤ length out.segments) × (s.points ≤ length out.points)
-  unfolding next_sizes
-  fine_places = let r = ready.room in (omega (arith, r.hexes), omega (arith, r.quads), omega (arith, r.segments), omega (arith, r.points))
-
   pub fine_small : (s.hexes ≤ 250_000) × (s.quads ≤ 250_000) × (s.segments ≤ 250_000)
   unfolding next_sizes counts_in
   fine_small = (omega (arith, next_range.hexes), omega (arith, next_range.quads), omega (arith, next_range.segments))
 
-  -- ---- what averaging needs
+  -- ---- what averaging needs: the sizes of the finer mesh, as the code works them out
 
-  module _ (xs : List ℤ) (hs qs ss ps : List ℕ) (eh : hs ≡ overwritten out.hexes (concat (split (topology m)).hexes)) (eq : qs ≡ overwritten out.quads (concat (split (topology m)).quads)) (es : ss ≡ overwritten out.segments (concat (split (topology m)).segments)) (ep : ps ≡ overwritten out.points (concat (split (topology m)).points)) where
-    fine_cells : (κ : Kind) → table (mesh xs (take (64 * s.hexes) hs) (take (16 * s.quads) qs) (take (4 * s.segments) ss) (take s.points ps)) κ ≡ concat (cells_of (split (topology m)) κ)
-    unfolding next_sizes
-    fine_cells hex = ap (take (64 * s.hexes)) eh ∙ fine_table hex out.hexes (64 * s.hexes) (omega arith)
-    fine_cells quad = ap (take (16 * s.quads)) eq ∙ fine_table quad out.quads (16 * s.quads) (omega arith)
-    fine_cells segment = ap (take (4 * s.segments)) es ∙ fine_table segment out.segments (4 * s.segments) (omega arith)
-    fine_cells point = ap (take s.points) ep ∙ fine_table point out.points s.points (omega arith)
+  module _ {n : Sizes} (e : n ≡ next_sizes s) where
+    pub finer_places : (8 * n.hexes ≤ length out.hexes) × (4 * n.quads ≤ length out.quads) × (2 * n.segments ≤ length out.segments) × (n.points ≤ length out.points)
+    finer_places = let r = ready.room in rw e (r.hexes, r.quads, r.segments, r.points)
 
-    pub average_ready : (ws : List ℕ) → length ws ≡ length words → Averageable m (mesh xs (take (64 * s.hexes) hs) (take (16 * s.quads) qs) (take (4 * s.segments) ss) (take s.points ps)) (s.vertices + (s.edges + (s.faces + s.hexes))) (length ws) (length longs) (length out.vertices)
+    pub finer_small : (n.hexes ≤ 250_000) × (n.quads ≤ 250_000) × (n.segments ≤ 250_000)
+    unfolding counts_in
+    finer_small = rw e (next_range.hexes, next_range.quads, next_range.segments)
+
+  module _ {n : Sizes} (e : n ≡ next_sizes s) (xs : List ℤ) (hs qs ss ps : List ℕ) (eh : hs ≡ overwritten out.hexes (concat (split (topology m)).hexes)) (eq : qs ≡ overwritten out.quads (concat (split (topology m)).quads)) (es : ss ≡ overwritten out.segments (concat (split (topology m)).segments)) (ep : ps ≡ overwritten out.points (concat (split (topology m)).points)) where
+    fine_cells : (κ : Kind) → table (mesh xs (take (8 * n.hexes) hs) (take (4 * n.quads) qs) (take (2 * n.segments) ss) (take n.points ps)) κ ≡ concat (cells_of (split (topology m)) κ)
+    fine_cells hex = ap (take (8 * n.hexes)) eh ∙ fine_table hex out.hexes (8 * n.hexes) (ap (λ (r : Sizes). 8 * r.hexes) e)
+    fine_cells quad = ap (take (4 * n.quads)) eq ∙ fine_table quad out.quads (4 * n.quads) (ap (λ (r : Sizes). 4 * r.quads) e)
+    fine_cells segment = ap (take (2 * n.segments)) es ∙ fine_table segment out.segments (2 * n.segments) (ap (λ (r : Sizes). 2 * r.segments) e)
+    fine_cells point = ap (take n.points) ep ∙ fine_table point out.points n.points (ap (λ (r : Sizes). r.points) e ∙ omega arith)
+
+    pub average_ready : (ws : List ℕ) → length ws ≡ length words → Averageable m (mesh xs (take (8 * n.hexes) hs) (take (4 * n.quads) qs) (take (2 * n.segments) ss) (take n.points ps)) n.vertices (length ws) (length longs) (length out.vertices)
     unfolding next_sizes
-    average_ready ws e =
+    average_ready ws long =
         let r = ready.room in
+        let v : n.vertices ≡ (next_sizes s).vertices = ap (λ (x : Sizes). x.vertices) e in
         record {
           sound = ready.accepted.sound;
           near = ready.accepted.near;
           cells = fine_cells;
           few = few_cells;
-          counted = all_vertices;
-          words_fit = omega (arith, ready.enough_words);
-          longs_fit = omega (arith, ready.enough_longs);
-          out_fits = omega (arith, r.vertices);
+          counted = v ∙ all_vertices;
+          words_fit = omega (arith, v, long, ready.enough_words);
+          longs_fit = omega (arith, v, ready.enough_longs);
+          out_fits = omega (arith, v, r.vertices);
         }
 
 -- what the two leave is the round

@@ -1,6 +1,6 @@
 // One round, and the mesh at the front of the output tables refined in place.
 ghost use Rattle.std.specs.Prelude.{◌≡◌};
-ghost use Rattle.rules.specs.Mesh.{mesh as as_mesh};
+ghost use Rattle.rules.specs.Mesh.{mesh as mesh_of};
 ghost use Rattle.rules.specs.Averaging.{round, refined};
 ghost use Rattle.rules.specs.EntryPoints.{result_tables};
 ghost use Rattle.tables.specs.Lent.{mesh_in, mesh_at, SameSlices};
@@ -27,23 +27,24 @@ fn round(
     words: &mut [u32],
     longs: &mut [u64],
 )
-    requires { let out = as_mesh vertices.old hexes.old quads.old segments.old points.old in
+    requires { let out = mesh_of vertices.old hexes.old quads.old segments.old points.old in
         Ready (mesh_in mesh) sizes out words.old longs.old }
-    ensures { let old = as_mesh vertices.old hexes.old quads.old segments.old points.old in
-        as_mesh vertices.new hexes.new quads.new segments.new points.new ≡ result_tables 0 old (round (mesh_in mesh.entry)) }
+    ensures { let old = mesh_of vertices.old hexes.old quads.old segments.old points.old in
+        mesh_of vertices.new hexes.new quads.new segments.new points.new ≡ result_tables 0 old (round (mesh_in mesh.entry)) }
 {
     let edges = sizes.edges as usize;
     let faces = sizes.faces as usize;
     splitting::split(mesh, edges, faces, words, hexes, quads, segments, points);
+    let finer = counting::next_sizes(sizes);
     let fine = MeshTables {
         vertices: mesh.vertices,
-        hexes: &hexes[..64 * sizes.hexes as usize],
-        quads: &quads[..16 * sizes.quads as usize],
-        segments: &segments[..4 * sizes.segments as usize],
-        points: &points[..sizes.points as usize],
+        hexes: &hexes[..8 * finer.hexes as usize],
+        quads: &quads[..4 * finer.quads as usize],
+        segments: &segments[..2 * finer.segments as usize],
+        points: &points[..finer.points as usize],
     };
-    let count = sizes.vertices + (sizes.edges + (sizes.faces + sizes.hexes));
-    averaging::average(mesh, fine, count as usize, words, longs, vertices);
+    let count = finer.vertices as usize;
+    averaging::average(mesh, fine, count, words, longs, vertices);
 }
 
 // The same to the fronts of the output tables.
