@@ -12,7 +12,7 @@ use Rattle.rules.specs.Lists.{concat_map, cut, up_from, Key, index_of, meet, mee
 use Rattle.lists.specs.Membership.{In}
 use Rattle.lists.proofs.Membership.{get_or_map}
 use Rattle.lists.proofs.Once.{concat_map_append}
-use Rattle.lists.proofs.Tables.{cut_entry}
+use Rattle.lists.proofs.Tables.{cut_entry, length_cut}
 use Rattle.lists.proofs.Distinct.{index_in, index_left, meet_all_append, meet_all_more}
 use Rattle.memory.proofs.Stores.{Storing, store_start, front_turn, store_end, sets_front}
 use Rattle.std.proofs.Common.{Option, Some, None}
@@ -44,28 +44,30 @@ entry_is k i xs l =
     ap (λ (n : ℕ). take n (drop (k * i) xs)) e ∙ sym (cut_entry k i xs [] l)
 
 -- cell x is lent, and `more` is left, of a table whose first i cells were lent before
-module _ (k i : ℕ) (xs rest : List ℕ) (some : 0 < k) (left : rest ≡ drop (k * i) xs) where
-  module _ (x more : List ℕ) (lent : rest ≡ x ++ more) (whole : length x ≡ k) where
-    pub chunk_listed : i < length xs / k
-    chunk_listed =
-        le-div (suc i) (length xs) k some (omega (arith, ap length left, length-drop (k * i) xs, ap length lent, length-append x more, whole, some))
+pub record Chunk (k i : ℕ) (xs x more : List ℕ) : Type 0 where
+  pub listed : i < length (cut k xs)
+  pub cell : x ≡ get_or (cut k xs) i []
+  pub left : more ≡ drop (k * (i + 1)) xs
 
-    pub chunk_is : x ≡ get_or (cut k xs) i []
-    chunk_is =
-        let e : x ≡ take k rest = sym (ap (take k) lent ∙ take_at x more k whole) in
-        e ∙ ap (take k) left ∙ sym (cut_entry k i xs [] chunk_listed)
-
-    pub chunk_left : more ≡ drop (k * (i + 1)) xs
-    chunk_left =
-        let e : more ≡ drop k rest = sym (ap (drop k) lent ∙ drop_at x more k whole) in
-        let m : k * i + k ≡ k * (i + 1) = omega arith in
-        e ∙ ap (drop k) left ∙ drop-drop k (k * i) xs ∙ ap (λ (n : ℕ). drop n xs) m
+module _ (xs : List ℕ) {k i : ℕ} {rest : List ℕ} (some : 0 < k) (left : rest ≡ drop (k * i) xs) where
+  pub chunk : {x more : List ℕ} → rest ≡ x ++ more → length x ≡ k → Chunk k i xs x more
+  chunk {x} {more} lent whole =
+      let l : i < length xs / k =
+      le-div (suc i) (length xs) k some (omega (arith, ap length left, length-drop (k * i) xs, ap length lent, length-append x more, whole, some)) in
+      let e : x ≡ take k rest = sym (ap (take k) lent ∙ take_at x more k whole) in
+      let r : more ≡ drop k rest = sym (ap (drop k) lent ∙ drop_at x more k whole) in
+      let m : k * i + k ≡ k * (i + 1) = omega arith in
+      record {
+        listed = omega (arith, l, length_cut k xs);
+        cell = e ∙ ap (take k) left ∙ sym (cut_entry k i xs [] l);
+        left = r ∙ ap (drop k) left ∙ drop-drop k (k * i) xs ∙ ap (λ (n : ℕ). drop n xs) m;
+      }
 
   -- no whole cell is left
-  pub chunk_end : length rest < k → length xs / k ≤ i
+  pub chunk_end : length rest < k → length (cut k xs) ≤ i
   chunk_end l =
       let h : length xs < suc i * k = omega (arith, ap length left, length-drop (k * i) xs) in
-      omega (arith, (div-lt_iff_lt-mul {k = k} {x = length xs} {y = suc i} some).1 h)
+      omega (arith, (div-lt_iff_lt-mul {k = k} {x = length xs} {y = suc i} some).1 h, length_cut k xs)
 
 -- ---- a list, element after element
 

@@ -57,24 +57,11 @@ pub fn count_edges(w: &mut [u32], hexes: &[u32], quads: &[u32], segments: &[u32]
     parts::meet_table::<2>(w, room, by_quads, Parts::Segments, segments)
 }
 
-// The parts of the cells of one table, of C corners each.
-fn count_sized<const C: usize>(w: &mut [u32], of: Parts, cells: &[u32]) -> Option<usize>
+// The parts of the cells of one table, of C corners each. With cells as parts: how many corner sets they have.
+pub fn count_table<const C: usize>(w: &mut [u32], of: Parts, cells: &[u32]) -> Option<usize>
     requires { C ≡ part_corners of }
     ensures { CountOf (table_keys of cells.now) result }
 {
     let room = prepare_for(w, C, of.count_all(cells))?;
     parts::meet_table::<C>(w, room, 0, of, cells)
-}
-
-// The parts of the cells of one table. With cells as parts: how many corner sets they have. The match finds the count of corners that the kind
-// already says: as a const parameter of this function it would be a second word of callers for one thing, and a `requires` that they agree.
-pub fn count_table(w: &mut [u32], of: Parts, cells: &[u32]) -> Option<usize>
-    ensures { CountOf (table_keys of cells.now) result }
-{
-    match of {
-        Parts::Points => count_sized::<1>(w, of, cells),
-        Parts::HexEdges | Parts::QuadEdges | Parts::Segments => count_sized::<2>(w, of, cells),
-        Parts::HexFaces | Parts::Quads | Parts::SegmentFaces => count_sized::<4>(w, of, cells),
-        Parts::Hexes => count_sized::<8>(w, of, cells),
-    }
 }

@@ -84,8 +84,9 @@ impl Parts {
         }
     }
 
-    // The places of the corners of a cell's parts, part after part, and zeros behind them: there is no heap, and the most are 24. They are
-    // listed once for a whole table of cells: what is done for each cell then reads them in a row. A cell by itself has its corners in order.
+    // The places of the corners of a cell's parts, part after part, and zeros behind them; the most are 24. They are listed once for a whole
+    // table of cells: what is done for each cell then reads them in a row. A cell by itself has its corners in order. No `ArrayVec`: a
+    // table's rows are copied whole, and its calls that take a slice answer an `Err`, here a branch that none takes.
     pub fn listed(self) -> [u8; 24]
         ensures { take (length (places_listed self)) result ≡ places_listed self }
     {
@@ -117,7 +118,8 @@ fn part_count(places: usize, corners: usize) -> usize
     places.checked_div(corners).unwrap_or(0)
 }
 
-// Meets the part of a cell whose C corners stand at these places, in a table of n keys.
+// Meets the part of a cell whose C corners stand at these places, in a table of n keys. An array of C numbers is to have fewer than 2^63 bytes:
+// this is asked here and twice below, since a table with no room for a key bounds no C, and a struct of that one fact is no plainer.
 fn meet_part<const C: usize>(
     w: &mut [u32],
     room: usize,
@@ -125,7 +127,7 @@ fn meet_part<const C: usize>(
     places: &[u8],
     cell: &[u32],
 ) -> Option<table::MetKey>
-    requires corners { C < 2 ^ 61 }
+    requires short { C < 2 ^ 61 }
     requires table { Table C w.old room n }
     requires places_len { length places.now ≡ C }
     requires within { Within (length cell.now) places.now }
@@ -148,7 +150,7 @@ pub fn meet_parts<const C: usize>(
     base: usize,
     numbers: &mut [u32],
 ) -> Option<usize>
-    requires corners { C < 2 ^ 61 }
+    requires short { C < 2 ^ 61 }
     requires table { Table C w.old room n }
     requires within { Within (length cell.now) places.now }
     requires room_bound { base + room ≤ 2 ^ 32 }
@@ -166,25 +168,25 @@ pub fn meet_parts<const C: usize>(
     Some(known)
 }
 
-// Meets the parts of all cells of a flat table of cells of `size` corners, cell after cell. Their numbers are not asked for.
+// Meets the parts of all cells of a flat table of cells of `corners` corners, cell after cell. Their numbers are not asked for.
 fn meet_cells<const C: usize>(
     w: &mut [u32],
     room: usize,
     n: usize,
     places: &[u8],
     cells: &[u32],
-    size: usize,
+    corners: usize,
 ) -> Option<usize>
-    requires corners { C < 2 ^ 61 }
+    requires short { C < 2 ^ 61 }
     requires table { Table C w.old room n }
     requires few_parts { length places.now / C ≤ 12 }
-    requires within { Within size places.now }
-    requires size_nonzero { 0 < size }
-    ensures { Tallied C w.old w.new room n (concat_map (listed_keys C places.now) (cut size cells.now)) result }
+    requires within { Within corners places.now }
+    requires corners_nonzero { 0 < corners }
+    ensures { Tallied C w.old w.new room n (concat_map (listed_keys C places.now) (cut corners cells.now)) result }
 {
     let mut numbers = [0u32; 12];
     let mut known = n;
-    for cell in cells.chunks_exact(size) {
+    for cell in cells.chunks_exact(corners) {
         known = meet_parts::<C>(w, room, known, places, cell, 0, &mut numbers)?;
     }
     Some(known)

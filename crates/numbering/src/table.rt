@@ -1,6 +1,7 @@
-// A hash table with chains in a lent slice: the heads of room + 1 slots, then the entries, each a link and a key. The words, the room and the
-// count of keys are passed side by side: in a struct behind `&mut` a compiler loads them anew after each store to the words (in a model in C,
-// 4 % more instructions).
+// A hash table with chains in a lent slice (no heap, so no map): the heads of room + 1 slots, then the entries, each a link and a key. The
+// words, the room and the count of keys stand side by side: as a struct with `meet` as its method, refining took 4.0 % more instructions on a
+// grid of hexes and 3.7 % more where hexes share a face (3 % fewer on segments), and the bar is 0.5 %. Still to do: a struct as far as
+// `meet_parts`, which takes its fields once for a cell: at most 0.15 % more in any row.
 ghost use Rattle.std.specs.Prelude.{◌≡◌, ◌↔◌, IsTrue, ◌+◌, ◌^◌, ◌≤◌, ◌<◌, length, replicate};
 ghost use Rattle.std.proofs.lemmas.List.Edits.{sets};
 ghost use Rattle.rules.specs.Lists.{index_of, overwritten};

@@ -8,7 +8,7 @@ use Rattle.numbering.proofs.parts.meet_cells.Given as goal
 
 abbrev pub invariant-loop-cell : goal.invariant-loop-cell
 invariant-loop-cell g l = record {
-  size_is : chunks_exact_size l.cell-iterator ≡ l.size;
-  left : chunks_exact_rest l.cell-iterator ≡ drop (l.size * length l.yielded) l.cells;
-  met : MetAll g.row.C l.fn.w l.w l.room l.n (concat_map (listed_keys g.row.C l.places) (take (length l.yielded) (cut l.size l.cells))) l.known;
+  size_is : chunks_exact_size l.cell-iterator ≡ l.corners;
+  left : chunks_exact_rest l.cell-iterator ≡ drop (l.corners * length l.yielded) l.cells;
+  met : MetAll g.row.C l.fn.w l.w l.room l.n (concat_map (listed_keys g.row.C l.places) (take (length l.yielded) (cut l.corners l.cells))) l.known;
 }

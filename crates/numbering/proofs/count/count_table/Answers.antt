@@ -1,6 +1,6 @@
 use Rattle.numbering.specs.Parts.{table_keys}
 use Rattle.numbering.proofs.Passes.{met_none, counted}
-use Rattle.numbering.proofs.count.count_sized.Goals as goal
+use Rattle.numbering.proofs.count.count_table.Goals as goal
 
 pub returns : goal.returns
 returns g c =
