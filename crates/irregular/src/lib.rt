@@ -12,6 +12,7 @@ ghost use Rattle.rules.specs.Refusals.{mesh_checks};
 ghost use Rattle.rules.specs.EntryPoints.{cleared, irregular_count, irregular_answer};
 ghost use Rattle.tables.specs.Lent.{mesh_in};
 
+use crate::tallies::FewCorners;
 use rules::Refusal;
 use tables::MeshTables;
 
@@ -23,12 +24,13 @@ fn count(mesh: MeshTables, words: &mut [u32]) -> u64
     requires { mesh_checks (mesh_in mesh) 0 ≡ 0 }
     ensures { result ≡ irregular_count (topology (mesh_in mesh.entry)) }
 {
+    let few = FewCorners { tables: mesh };
     let corners = mesh.hexes.len() + (mesh.quads.len() + (mesh.segments.len() + mesh.points.len()));
     if checks::is_little(words.len(), corners) {
         let mut own = [0u32; 8192];
-        return tallies::count(&mut own, mesh);
+        return tallies::count(&mut own, few);
     }
-    tallies::count(words, mesh)
+    tallies::count(words, few)
 }
 
 // The refusal, or the count; what is left in the lent numbers is not said.

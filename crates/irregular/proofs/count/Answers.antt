@@ -4,14 +4,14 @@ use Rattle.soundness.proofs.Checks.{checks_accept}
 use Rattle.irregular.proofs.Valences.{few_corners, accepted_count}
 use Rattle.irregular.proofs.count.Goals as goal
 
-pub count-requires-clause-few_corners : goal.count-requires-clause-few_corners
-count-requires-clause-few_corners c = few_corners _ (checks_accept _ c.requires)
+pub invariant_of-few : goal.invariant_of-few
+invariant_of-few c = record { few = few_corners _ (checks_accept _ c.requires) }
+
+pub invariant_of-few-2 : goal.invariant_of-few-2
+invariant_of-few-2 c = record { few = few_corners _ (checks_accept _ c.requires) }
 
 pub returns-then-is_little : goal.returns-then-is_little
 returns-then-is_little c = c.count.ensures ∙ sym (accepted_count _ (checks_accept _ c.requires))
-
-pub count-requires-2-clause-few_corners : goal.count-requires-2-clause-few_corners
-count-requires-2-clause-few_corners c = few_corners _ (checks_accept _ c.requires)
 
 pub returns : goal.returns
 returns c = c.count-2.ensures ∙ sym (accepted_count _ (checks_accept _ c.requires))
