@@ -2,15 +2,17 @@
 use mathlib.Core.Path.{◌≡◌, refl, sym, ap, ◌∙◌}
 use mathlib.Core.Bool.{Bool, true, false, cond}
 use mathlib.Core.Logic.{⊎_elim}
-use mathlib.Core.List.{List, [], ◌∷◌, ◌++◌}
+use mathlib.Core.List.{List, [], ◌∷◌, ◌++◌, map}
 use Prim.Native.Nat.{ℕ, zero, suc, ◌+◌, ◌*◌, ◌/◌, ◌%◌, ◌^◌, ◌≤◌, ◌<◌}
 use native.Mathlib.Nat.{pow-succ'}
 use native.Mathlib.Omega.{arith}
 use lib.Dec.{ltb}
-use lib.ListN.{length, length-append}
+use lib.ListN.{length, get_or, take, length-append}
 use lib.IntN.{ℤ, pos, negsuc, nat_abs}
 use lib.Signed.{lt_z}
 use borrow.Author.Tests.{ltb-true, ltb-false, lt-ltb, le-ltb}
+use Rattle.std.specs.Fmt.{decimal as printed, signed_decimal as signed}
+use Rattle.std.proofs.lemmas.Fmt.{decimal_by_steps}
 use Rattle.rules.specs.Listing.{decimal_in, decimal, signed_decimal}
 use mir.Syntax.{w64}
 use mir.Val.{SFits, to_z, of_z}
@@ -47,27 +49,36 @@ few_digits (suc k) n h =
     (λ e. rw (decimal_more n (ltb-false n 10 e)) (omega (arith, length-append (decimal (n / 10)) ((48 + n % 10) ∷ []))))
     (either (ltb n 10))
 
--- ---- with a sign
+-- ---- the library's digits
 
-pub signed_below : (z : ℤ) → lt_z z (pos 0) ≡ true → signed_decimal z ≡ 45 ∷ decimal (nat_abs z)
+one : (n : ℕ) → n < 10 → decimal n ≡ (48 + n) ∷ []
+one n h = let e : n % 10 ≡ n = omega arith in decimal_one n h ∙ ap (λ (k : ℕ). (48 + k) ∷ []) e
+
+more : (n : ℕ) (ds : List ℕ) → 10 ≤ n → decimal (n / 10) ≡ ds → decimal n ≡ ds ++ ((48 + n % 10) ∷ [])
+more n ds h e = decimal_more n h ∙ ap (λ (s : List ℕ). s ++ ((48 + n % 10) ∷ [])) e
+
+-- the library prints the digits of the rules
+pub printed_one : (n : ℕ) → n < 2 ^ 64 → printed n ≡ decimal n
+printed_one n h = sym (decimal_by_steps (λ (k : ℕ) (ds : List ℕ). decimal k ≡ ds) one more n h)
+
+pub printed_words : (k : ℕ) (ns : List ℕ) → ((i : ℕ) → get_or ns i 0 < 2 ^ 32) → map printed (take k ns) ≡ map decimal (take k ns)
+printed_words zero ns h = refl
+printed_words (suc k) [] h = refl
+printed_words (suc k) (n ∷ ns) h = rw (printed_one n (omega (arith, h 0)), printed_words k ns (λ i. h (suc i))) refl
+
+-- and a minus sign before those of a number below zero
+printed_signed : (z : ℤ) → SFits w64 z → signed z ≡ signed_decimal z
 unfolding signed_decimal
-signed_below (pos n) h = absurd (omega (arith, ltb-true n 0 h))
-signed_below (negsuc n) h = refl
+printed_signed (pos n) h = printed_one n (omega (arith, h.sfits))
+printed_signed (negsuc n) h = ap (λ (ds : List ℕ). 45 ∷ ds) (printed_one (suc n) (omega (arith, h.sfits)))
 
-pub signed_above : (z : ℤ) → lt_z z (pos 0) ≡ false → signed_decimal z ≡ decimal (nat_abs z)
-unfolding signed_decimal
-signed_above (pos n) h = refl
-signed_above (negsuc n) h = absurd (false≢true (sym h))
+-- a number is handed on by its bits
+pub shown : (z : ℤ) → SFits w64 z → signed (to_z w64 (of_z w64 z)) ≡ signed_decimal z
+shown z h = ap signed (to_z-of_z h) ∙ printed_signed z h
 
--- a signed number is handed on by its bits
-pub shown : (z : ℤ) → SFits w64 z → signed_decimal (to_z w64 (of_z w64 z)) ≡ signed_decimal z
-shown z h = ap signed_decimal (to_z-of_z h)
-
--- and one that is not below zero has the digits of its magnitude
-pub shown_word : (z : ℤ) (n : ℕ) → z ≡ pos n → n < 2 ^ 32 → signed_decimal (to_z w64 (of_z w64 z)) ≡ decimal n
+pub shown_word : (z : ℤ) (n : ℕ) → z ≡ pos n → n < 2 ^ 32 → signed (to_z w64 (of_z w64 z)) ≡ decimal n
 unfolding signed_decimal
 shown_word z n e h = shown z (rw e (record { sfits = omega arith })) ∙ rw e refl
 
-pub shown_size : (n k : ℕ) → n ≡ k → k ≤ 256 → signed_decimal (to_z w64 n) ≡ decimal k
-unfolding signed_decimal
-shown_size n k e h = ap signed_decimal (to_z_pos w64 (omega arith)) ∙ ap decimal e
+pub shown_size : (n k : ℕ) → n ≡ k → k ≤ 256 → signed (to_z w64 n) ≡ decimal k
+shown_size n k e h = ap signed (to_z_pos w64 (omega arith)) ∙ printed_one n (omega arith) ∙ ap decimal e

@@ -1,5 +1,5 @@
 -- How long the lines of a mesh can be. Assumes nothing.
-use mathlib.Core.Path.{◌≡◌, refl, sym, ◌∙◌}
+use mathlib.Core.Path.{◌≡◌, refl, sym, ap, ◌∙◌}
 use mathlib.Core.Logic.{inl, inr}
 use mathlib.Core.List.{List, [], ◌∷◌, map}
 use Prim.Native.Nat.{ℕ, zero, suc, ◌+◌, ◌*◌, ◌/◌, ◌^◌, ◌≤◌, ◌<◌}
@@ -10,7 +10,11 @@ use lib.IntN.{ℤ, pos, negsuc}
 use Rattle.rules.specs.Lists.{Each, concat_map, cut, has, up_from}
 use Rattle.rules.specs.Mesh.{Mesh, Topology, topology}
 use Rattle.rules.specs.Averaging.{holding, Counted, or_else, counted, rank, valence}
-use Rattle.rules.specs.Counts.{counts_of}
+use Rattle.rules.specs.declared.Counts.{Counts}
+use Rattle.rules.specs.declared.Sizes.{Sizes}
+use Rattle.rules.specs.Counts.{counts_of, counts_in}
+use Rattle.counting.specs.Bounded.{Narrow}
+use Rattle.std.specs.Fmt.{decimal as printed, signed_decimal as signed}
 use Rattle.rules.specs.Refusals.{outside, coordinate_out_of_range}
 use Rattle.rules.specs.Text.{text}
 use Rattle.rules.specs.Listing.{decimal, signed_decimal, fields, line, mesh_line, vertex_line, cell_lines, refused_line}
@@ -21,13 +25,14 @@ use Rattle.lists.proofs.Tables.{length_cut, length_entry, cut_entry}
 use Rattle.integers.specs.Range.{InRange}
 use Rattle.integers.proofs.Range.{inside}
 use Rattle.lines.specs.declared.text.Text.{Text}
-use Rattle.lines.specs.Appended.{Room}
-use Rattle.lines.specs.Fitting.{Fitting}
+use Rattle.lines.specs.Appended.{Room, Appended}
+use Rattle.lines.specs.Fitting.{Fitting, output_size}
 use mir.Syntax.{w32, w64}
 use mir.Val.{to_z, of_z}
 use mir.Facts.{to_z-of_z}
-use Rattle.lines.proofs.Digits.{few_digits, shown}
-use Rattle.lines.proofs.Fields.{vertex_line_lem}
+use Rattle.lines.proofs.Runs.{append_length}
+use Rattle.lines.proofs.Digits.{few_digits, printed_one, printed_words, shown, shown_word, shown_size}
+use Rattle.lines.proofs.Fields.{numbers, vertex_line_is}
 
 -- a field of at most 10 bytes
 record Short (f : List ℕ) : Type 0 where
@@ -86,6 +91,11 @@ cells_length letter k table w = rw (← length_cut k table) (runs_length _ (11 *
 pub room_for_cells : {t : Text} (letter k : ℕ) (table : List ℕ) → t.length + (11 * k + 2) * (length table / k) ≤ length t.buffer.now → Words table → Room t (cell_lines (letter ∷ []) (cut k table))
 room_for_cells letter k table r w = record { fits = omega (arith, r, cells_length letter k table w) }
 
+pub cell_shown : (k i : ℕ) (table z : List ℕ) → i < length (cut k table) → Words table → map printed (get_or (cut k table) i z) ≡ map decimal (get_or (cut k table) i z)
+cell_shown k i table z h w =
+    rw (cut_entry k i table z (rw (length_cut k table) at h))
+    (printed_words k (drop (k * i) table) (λ j. rw (get_or-drop (k * i) table j 0) (w (k * i + j))))
+
 -- ---- vertices
 
 -- a vertex has a rank of at most 3, and its valence is at most the length of a table
@@ -108,6 +118,12 @@ counted_bound t v b h q s p =
 
 -- ---- a mesh
 
+abbrev wide : ℤ → ℤ
+wide z = to_z w64 (of_z w64 z)
+
+abbrev pub Coordinate : Mesh → ℕ → ℤ → Type 0
+Coordinate m i z = z ≡ to_z w32 (of_z w32 (get_or m.vertices i (pos 0)))
+
 module _ (m : Mesh) (f : Fitting m) where
   near_at : (i : ℕ) → i < length m.vertices → Short (signed_decimal (get_or m.vertices i (pos 0)))
   unfolding coordinate_out_of_range
@@ -123,12 +139,10 @@ module _ (m : Mesh) (f : Fitting m) where
       (rw (length_cut 1 m.points) (omega (arith, f.points)))
 
   vertex_length : (v : ℕ) → v < length m.vertices / 3 → length (vertex_line m (topology m) v) ≤ 68
-  unfolding rank valence
+  unfolding rank valence signed_decimal
   vertex_length v h =
-      let at : ℕ → List ℕ = λ i. signed_decimal (get_or m.vertices i (pos 0)) in
-      rw (vertex_line_lem m (topology m) v)
-      (line_length (text "v")
-      (decimal v ∷ at (3 * v) ∷ at (3 * v + 1) ∷ at (3 * v + 2) ∷ decimal (rank (topology m) v) ∷ decimal (valence (topology m) v) ∷ []) (
+      rw (vertex_line_is m (topology m) v)
+      (line_length (text "v") (map signed_decimal (numbers m (topology m) v)) (
         short_decimal v (omega (arith, f.vertices)),
         (
           near_at (3 * v) (omega arith),
@@ -175,6 +189,11 @@ module _ (m : Mesh) (f : Fitting m) where
       let v = runs_length (vertex_line m (topology m)) 68 (up_from 0 n) (λ x i. vertex_length x (omega (arith, (in_up_from 0 n x i).1))) in
       omega (arith, v, length_up_from 0 n)
 
+  -- what the first line and the vertices leave for the cells
+  pub cells_room : {t₀ t₁ t₂ : Text} → t₀.length + output_size ≤ length t₀.buffer.now → Appended t₀ t₁ (mesh_line (counts_of m)) → Appended t₁ t₂ (concat_map (vertex_line m (topology m)) (up_from 0 (length m.vertices / 3))) →
+      t₂.length + (90 + 46 + 24 + 13) * 256 ≤ length t₂.buffer.now
+  cells_room room first vertices = omega (arith, room, first_length, vertices_length, f.vertices, first.behind, vertices.behind, append_length first, append_length vertices)
+
   -- a rank and a valence are small
   pub rank_small : (v : ℕ) → rank (topology m) v ≤ 3
   unfolding rank
@@ -185,13 +204,54 @@ module _ (m : Mesh) (f : Fitting m) where
   valence_small v = (ranked v).few
 
   -- a coordinate is handed on by its bits, from 32 of them to 64
-  pub coordinate_shown : (i : ℕ) → i < length m.vertices → {y : ℤ} → y ≡ to_z w32 (of_z w32 (get_or m.vertices i (pos 0))) → signed_decimal (to_z w64 (of_z w64 y)) ≡ signed_decimal (get_or m.vertices i (pos 0))
+  coordinate_shown : (i : ℕ) → i < length m.vertices → {y : ℤ} → y ≡ to_z w32 (of_z w32 (get_or m.vertices i (pos 0))) → signed (to_z w64 (of_z w64 y)) ≡ signed_decimal (get_or m.vertices i (pos 0))
   unfolding coordinate_out_of_range
   coordinate_shown i h {y} e =
       let z = get_or m.vertices i (pos 0) in
       let r : InRange z = (inside z).0 (none_at outside m.vertices (pos 0) f.near i h) in
       let same : y ≡ z = e ∙ to_z-of_z {w = w32} (record { sfits = omega arith }) in
       rw same (shown z (record { sfits = omega arith }))
+
+  -- the numbers that are handed on are those of the vertex's line
+  pub vertex_shown : (v : ℕ) → v < length m.vertices / 3 → {a x y z : ℤ} {r n : ℕ} → a ≡ pos v → Coordinate m (3 * v) x → Coordinate m (3 * v + 1) y → Coordinate m (3 * v + 2) z → r ≡ rank (topology m) v → n ≡ valence (topology m) v →
+      line (text "v") (map signed (wide a ∷ wide x ∷ wide y ∷ wide z ∷ to_z w64 r ∷ to_z w64 n ∷ [])) ≡ vertex_line m (topology m) v
+  unfolding signed_decimal
+  vertex_shown v h {a} {r = r} {n = n} number at₀ at₁ at₂ ranks counts =
+      rw (
+        shown_word a v number (omega (arith, f.vertices)),
+        coordinate_shown (3 * v) (omega arith) at₀,
+        coordinate_shown (3 * v + 1) (omega arith) at₁,
+        coordinate_shown (3 * v + 2) (omega arith) at₂,
+        shown_size r _ ranks (omega (arith, rank_small v)),
+        shown_size n _ counts (valence_small v),
+      ) (sym (vertex_line_is m (topology m) v))
+
+  -- and the counts those of the first line
+  pub narrow : (s : Sizes) → counts_in s ≡ counts_of m → Narrow s
+  unfolding counts_in counts_of
+  narrow s e = record {
+    vertices = omega (arith, f.vertices, ap (λ (c : Counts). c.vertices) e);
+    hexes = omega (arith, f.hexes, ap (λ (c : Counts). c.hexes) e);
+    quads = omega (arith, f.quads, ap (λ (c : Counts). c.quads) e);
+    segments = omega (arith, f.segments, ap (λ (c : Counts). c.segments) e);
+    points = omega (arith, f.points, ap (λ (c : Counts). c.points) e);
+  }
+
+  pub counts_shown : {c : Counts} → c ≡ counts_of m → line (text "mesh") (map printed (c.vertices ∷ c.hexes ∷ c.quads ∷ c.segments ∷ c.points ∷ [])) ≡ mesh_line (counts_of m)
+  unfolding mesh_line counts_of
+  counts_shown e =
+      rw (
+        e,
+        printed_one (length m.vertices / 3) (omega (arith, f.vertices)),
+        printed_one (length m.hexes / 8) (omega (arith, f.hexes)),
+        printed_one (length m.quads / 4) (omega (arith, f.quads)),
+        printed_one (length m.segments / 2) (omega (arith, f.segments)),
+        printed_one (length m.points / 1) (omega (arith, f.points)),
+      ) refl
+
+pub refused_shown : (n : ℕ) → n < 2 ^ 32 → line (text "refused") (printed n ∷ []) ≡ refused_line n
+unfolding refused_line
+refused_shown n h = rw (printed_one n (omega arith)) refl
 
 pub room_for_refusal : {t : Text} (n : ℕ) → t.length + 19 ≤ length t.buffer.now → n < 2 ^ 32 → Room t (refused_line n)
 room_for_refusal n r h = record { fits = omega (arith, refused_length n h) }

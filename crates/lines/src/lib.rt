@@ -27,7 +27,10 @@ pub mod rows;
 pub mod text;
 
 // How many bytes the input may have.
-const LIMIT: usize = 16385;
+pub const LIMIT: usize = 16385;
+
+// How many bytes the longest listing has.
+pub const OUTPUT_SIZE: usize = 112348;
 
 // The lines of a stored mesh after its rounds, or of the refusal.
 fn push_stored_lines(bytes: &[u8], rounds: u32, out: &mut Text)
@@ -49,7 +52,7 @@ fn push_stored_lines(bytes: &[u8], rounds: u32, out: &mut Text)
 }
 
 // What the program prints of its input, of any length: the lines stand at the front of the output, and the answer says how long they are.
-pub fn lines(input: &[u8], out: &mut [u8; 112348]) -> usize
+pub fn lines(input: &[u8], out: &mut [u8; OUTPUT_SIZE]) -> usize
     ensures count { result ≡ length (listing input.now) }
     ensures output { out.new ≡ overwritten out.old (listing input.now) }
 {

@@ -12,6 +12,7 @@ ghost use Rattle.lines.specs.Fitting.{Fitting, output_size};
 use crate::kinds::Kind;
 use crate::ranks::rank_of;
 use crate::text::Text;
+use counting::counts_in;
 use tables::MeshTables;
 
 // A mesh of the listing program's sizes.
@@ -26,15 +27,15 @@ fn push_mesh_line(fitting: FittingMesh, out: &mut Text)
     requires { Room out.old (mesh_line (counts_of (mesh_in fitting.tables))) }
     ensures { Appended out.old out.new (mesh_line (counts_of (mesh_in fitting.entry.tables))) }
 {
-    let mesh = fitting.tables;
-    let counts = [
-        (mesh.vertices.len() / 3) as u32,
-        (mesh.hexes.len() / 8) as u32,
-        (mesh.quads.len() / 4) as u32,
-        (mesh.segments.len() / 2) as u32,
-        mesh.points.len() as u32,
+    let counts = counts_in(fitting.tables.places());
+    let numbers = [
+        counts.vertices,
+        counts.hexes,
+        counts.quads,
+        counts.segments,
+        counts.points,
     ];
-    out.push_line(b"mesh", &counts);
+    out.push_line(b"mesh", &numbers);
 }
 
 // The lines of a table: for each cell the letter of its kind and its corners, 11 bytes at most for a corner.
@@ -58,14 +59,15 @@ fn push_vertex_line(v: u32, fitting: FittingMesh, out: &mut Text)
     let mesh = fitting.tables;
     let i = 3 * v as usize;
     let ranked = rank_of(v, mesh);
-    out.push_word(b"v");
-    out.push_field(i64::from(v));
-    out.push_field(i64::from(mesh.vertices[i]));
-    out.push_field(i64::from(mesh.vertices[i + 1]));
-    out.push_field(i64::from(mesh.vertices[i + 2]));
-    out.push_field(ranked.rank as i64);
-    out.push_field(ranked.valence as i64);
-    out.push_byte(b'\n');
+    let numbers = [
+        i64::from(v),
+        i64::from(mesh.vertices[i]),
+        i64::from(mesh.vertices[i + 1]),
+        i64::from(mesh.vertices[i + 2]),
+        ranked.rank as i64,
+        ranked.valence as i64,
+    ];
+    out.push_line(b"v", &numbers);
 }
 
 // The lines of all vertices. A vertex is its number, by which its corners are looked for: so a range, and not a walk through coordinates.
@@ -93,7 +95,8 @@ pub fn push_mesh_lines(fitting: FittingMesh, out: &mut Text)
     push_cell_lines(Kind::Point, mesh.points, out);
 }
 
-// The one line of a refusal: a word of 7 bytes, a space, 10 digits at most, a line feed. It is printed by its number, whichever that is.
+// The one line of a refusal: a word of 7 bytes, a space, 10 digits at most, a line feed.
+// A number and no `Refusal`: its contract speaks of every number, and a `Refusal` would ask more.
 pub fn push_refused_line(number: u32, out: &mut Text)
     requires { out.old.length + 19 ≤ length out.old.buffer.now }
     ensures { Printed out.old out.new (refused_line number) }

@@ -4,7 +4,11 @@
 
 ghost use Rattle.std.specs.Prelude.{◌≤◌, length, IfOk};
 
+use lines::{LIMIT, OUTPUT_SIZE};
 use std::io::{self, Input, Print, Read};
+
+// One byte more than the program takes, so that a longer input shows.
+const INPUT_SIZE: usize = LIMIT + 1;
 
 // Reads until the input ends or the buffer is full: how many bytes it read. A turn reads as much as the reader gives: no `for` can count them.
 fn read_full<R: Read>(reader: &mut R, buffer: &mut [u8]) -> io::Result<usize>
@@ -22,10 +26,9 @@ fn read_full<R: Read>(reader: &mut R, buffer: &mut [u8]) -> io::Result<usize>
 }
 
 fn main(rt: HostRuntime) -> io::Result<()> {
-    // One byte more than the program takes, so that a longer input shows.
-    let mut input = [0u8; 16386];
+    let mut input = [0u8; INPUT_SIZE];
     let n = read_full(&mut rt.reader(), &mut input)?;
-    let mut out = [0u8; 112348];
+    let mut out = [0u8; OUTPUT_SIZE];
     let count = lines::lines(&input[..n], &mut out);
     rt.write_all(&out[..count])
 }

@@ -6,4 +6,4 @@ use Rattle.lines.proofs.Fields.{field}
 use Rattle.lines.proofs.text.Text.push_line.Given as goal
 
 abbrev pub invariant-loop-number : goal.invariant-loop-number
-invariant-loop-number l = Appended l.initial.self l.self (concat_map field (take l.number-index l.numbers))
+invariant-loop-number g l = Appended l.initial.self l.self (concat_map (field g.I.Integer.text) (take l.number-index l.numbers))
