@@ -163,7 +163,7 @@ pub fn find<const C: usize>(w: &mut [u32], of: Walk, fewest: usize) -> Result<us
     }
     let all = Walked::<C>::new(of);
     let mut classes = fewest;
-    // The steps grow, so this is no range.
+    // The steps grow, so this is no range; nor a chain, since each turn changes the lent memory.
     while classes <= 1024 {
         match all.sweep_all(w, classes) {
             Err(Stopped::Full) => classes += 1 + classes / 8,

@@ -94,7 +94,8 @@ fn check_cells_with(words: &mut [u32], mesh: MeshTables) -> Result<usize, Refusa
 }
 
 // Whether an array of 8192 numbers serves better than so many lent ones: these are fewer, and may not hold the edges and faces of cells with
-// so many corners.
+// so many corners. Three functions lend such an array by it, two here and one of the irregular count. One that takes what each does as a closure
+// would be no plainer: each closure would have to say the contract again that its function has.
 pub fn is_little(words: usize, corners: usize) -> bool
     ensures { result ≡ false → 6 ≤ words }
 {

@@ -4,10 +4,10 @@ use Rattle.rules.specs.Lists.{Key, distinct}
 use Rattle.numbering.specs.declared.parts.Parts.TheVariants.{HexEdges, HexFaces, QuadEdges, Quads, Segments}
 use Rattle.numbering.specs.Parts.{table_keys}
 
--- The keys of c numbers, with `beside` more words for each, that so many words have room for: `most` are enough, and a link has 32 bits. One word
--- is the head of a slot more than there are keys.
-abbrev pub room_of : ℕ → ℕ → ℕ → ℕ → ℕ
-room_of words c beside most = min (min ((words - 1) / (c + 2 + beside)) most) (2 ^ 32 - 2)
+-- The keys of `size` words each that so many words have room for: `most` are enough, and a link has 32 bits. One word is the head of a slot more
+-- than there are keys.
+abbrev pub room_of : ℕ → ℕ → ℕ → ℕ
+room_of words size most = min (min ((words - 1) / size) most) (2 ^ 32 - 2)
 
 -- a count is that of the distinct keys; that there is no room for them says nothing
 abbrev pub CountOf : List Key → Option ℕ → Type 0

@@ -11,21 +11,21 @@ use crate::{parts, table};
 // most `most`, and at most what a table holds.
 pub fn room_in(words: usize, size: usize, most: usize) -> usize
     requires { (0 < words) × (0 < size) }
-    ensures { (size * result + 1 ≤ words) × (result + 1 < 2 ^ 32) }
+    ensures room { result ≡ room_of words size most }
+    ensures fits { (size * result + 1 ≤ words) × (result + 1 < 2 ^ 32) }
 {
     ((words - 1) / size).min(most).min(4294967294)
 }
 
-// The same for keys of c numbers, with `beside` more words for each key: what `table::size` says, the other way round. It says how many, and so
-// does not call `room_in`, which says only that they are not too many.
+// The same for keys of c numbers, with `beside` more words for each key: what `table::size` says, the other way round.
 pub fn room_for(words: usize, c: usize, beside: usize, most: usize) -> usize
     requires some_word { 0 < words }
     requires short { c + 2 + beside < 2 ^ 64 }
-    ensures room { result ≡ room_of words c beside most }
+    ensures room { result ≡ room_of words (c + 2 + beside) most }
     ensures fits { words_for c result + beside * result ≤ words }
     ensures few { result + 1 < 2 ^ 32 }
 {
-    ((words - 1) / (c + 2 + beside)).min(most).min(4294967294)
+    room_in(words, c + 2 + beside, most)
 }
 
 // Makes an empty table of keys of c numbers with room for `most`, or for as many as the memory holds; the answer is its room, or `None` where

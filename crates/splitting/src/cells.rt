@@ -28,7 +28,7 @@ pub struct PartTables<'a> {
 }
 
 // Meets the parts of a cell, of C corners each, in a table that has room for them all. The parameters are those of `meet_parts`: the words, the
-// room and the count stand side by side in numbering, since as fields they are loaded again after each store.
+// room and the count stand side by side, as in numbering.
 fn number_parts<const C: usize>(
     w: &mut [u32],
     room: usize,
@@ -49,6 +49,7 @@ fn number_parts<const C: usize>(
     parts::meet_parts::<C>(w, room, n, places, cell, base, numbers).unwrap_or(n)
 }
 
+// `room`, `own_bound` and `children_in_bounds` are asked for on each level, each time of other cells: of one, of those of a table.
 impl<'a> PartTables<'a> {
     // Two tables of no key in these words, with room for the edges and for the faces of the mesh. That the words end as what both lists leave is not
     // said: such a clause is proved only of a function that returns the two slices themselves, and not a struct of them.
