@@ -8,8 +8,7 @@ use native.Mathlib.Nat.{pow-succ'}
 use native.Mathlib.Omega.{arith}
 use lib.Dec.{ltb}
 use lib.ListN.{length, get_or, take, length-append}
-use lib.IntN.{ℤ, pos, negsuc, nat_abs}
-use lib.Signed.{lt_z}
+use lib.IntN.{ℤ, pos, negsuc}
 use borrow.Author.Tests.{ltb-true, ltb-false, lt-ltb, le-ltb}
 use Rattle.std.specs.Fmt.{decimal as printed, signed_decimal as signed}
 use Rattle.std.proofs.lemmas.Fmt.{decimal_by_steps}
@@ -17,7 +16,7 @@ use Rattle.rules.specs.Listing.{decimal_in, decimal, signed_decimal}
 use mir.Syntax.{w64}
 use mir.Val.{SFits, to_z, of_z}
 use mir.Facts.{to_z-of_z, to_z_pos}
-use Rattle.lists.proofs.Tests.{either, false≢true}
+use Rattle.lists.proofs.Tests.{either}
 
 -- the count of digits that is allowed does not matter, if there are enough
 enough : (j k n : ℕ) → n < j → n < k → decimal_in j n ≡ decimal_in k n

@@ -1,10 +1,9 @@
 -- The lines of the rules as runs of bytes. Assumes nothing.
 use mathlib.Core.Path.{◌≡◌, refl, sym, ap, ◌∙◌}
 use mathlib.Core.List.{List, [], ◌∷◌, ◌++◌, map, append_assoc}
-use Prim.Native.Nat.{ℕ, ◌+◌, ◌*◌, ◌/◌, ◌<◌}
+use Prim.Native.Nat.{ℕ, ◌+◌, ◌*◌, ◌<◌}
 use native.Mathlib.Nat.{add-zero}
-use native.Mathlib.Omega.{arith}
-use lib.ListN.{length, get_or}
+use lib.ListN.{get_or}
 use lib.IntN.{ℤ, pos}
 use lib.Dec.{lit<}
 use Rattle.lines.specs.declared.kinds.Kind.{Kind}
@@ -13,9 +12,8 @@ use Rattle.lines.specs.Kinds.{corner_count}
 use Rattle.rules.specs.Lists.{concat_map}
 use Rattle.rules.specs.Mesh.{Mesh, Topology}
 use Rattle.rules.specs.Averaging.{rank, valence}
-use Rattle.rules.specs.Counts.{counts_of}
 use Rattle.rules.specs.Text.{text}
-use Rattle.rules.specs.Listing.{decimal, signed_decimal, fields, line, mesh_line, vertex_line}
+use Rattle.rules.specs.Listing.{decimal, signed_decimal, fields, line, vertex_line}
 
 module _ {A : Type 0} (print : A → List ℕ) where
   -- a field: a number behind a space
