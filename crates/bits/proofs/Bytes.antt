@@ -2,13 +2,14 @@
 use Prim.Native.Nat.{ℕ, zero, suc, ◌+◌, ◌*◌, ◌/◌, ◌%◌, ◌^◌, ◌<◌}
 use mathlib.Core.Path.{◌≡◌, refl, sym, ap, ap₂, ◌∙◌}
 use mathlib.Core.List.{List, [], ◌∷◌, ◌++◌}
-use native.Mathlib.Nat.{mul-add, mul-suc, mul_comm, mod-eq_of_lt, suc-add, zero-add, mod-one, mul-add-mod_self_right, mul-add-div_right}
+use native.Mathlib.Nat.{div-one, pow-suc, mul-add, mul-suc, mul_comm, mod-eq_of_lt, suc-add, zero-add, mod-one, mul-add-mod_self_right, mul-add-div_right}
 use native.Mathlib.Omega.{arith}
-use lib.ListN.{length, take, drop, get_or, length-append}
+use lib.ListN.{length, take, drop, length-append}
 use lib.Seq.{get_or-drop}
 use lib.Dec.{lit<}
 use lib.Arith.{digits_lt}
 use lib.Pow.{pow_pos, pow-add, high, shr-shr, mod-pow-add}
+use Rattle.std.specs.Int.{byte_at, bytes_high_first}
 use Rattle.rules.specs.Bits.{number, bytes_of}
 use Rattle.bits.specs.Writing.{Bytes}
 
@@ -107,11 +108,22 @@ bytes_of_append (suc a) b x y h =
     ∙ ap (λ (q : ℕ). q / 2 ^ (8 * a)) (high x (8 * b) h)))
     (bytes_of_append a b x y h))
 
--- a byte of a number: m bytes stand behind it
-pub get_or_bytes_of : (n v j m : ℕ) → j + suc m ≡ n → get_or (bytes_of n v) j 0 ≡ v / 2 ^ (8 * m) % 256
+-- ---- the library's bytes
+
+byte_pow : (k : ℕ) → 256 ^ k ≡ 2 ^ (8 * k)
+byte_pow zero = refl
+byte_pow (suc k) = pow-suc 256 k ∙ rw (pow_byte, byte_pow k) (mul_comm (2 ^ (8 * k)) 256)
+
+byte_high : (k v : ℕ) → byte_at k v ≡ v / 2 ^ (8 * k) % 256
+byte_high zero v = ap (λ (q : ℕ). q % 256) (sym (div-one v))
+byte_high (suc k) v = ap (λ (p : ℕ). v / p % 256) (byte_pow (suc k))
+
+pub high_first : (m v : ℕ) → bytes_high_first m v ≡ bytes_of m v
 unfolding bytes_of
-get_or_bytes_of zero v j m e = absurd (let z : ◌≡◌ {A = ℕ} 0 1 = omega arith in omega arith)
-get_or_bytes_of (suc n) v zero m e =
-    let same : n ≡ m = omega arith in
-    ap (λ (x : ℕ). v / 2 ^ (8 * x) % 256) same
-get_or_bytes_of (suc n) v (suc j) m e = get_or_bytes_of n v j m (omega arith)
+high_first zero v = refl
+high_first (suc m) v = ap₂ (λ (b : ℕ) (t : List ℕ). b ∷ t) (byte_high m v) (high_first m v)
+
+-- behind the first j bytes of a number stand its others
+pub bytes_behind : (j m v : ℕ) → drop j (bytes_of (j + m) v) ≡ bytes_of m v
+bytes_behind zero m v = rw (zero-add) refl
+bytes_behind (suc j) m v = rw (suc-add, bytes_of_suc) (bytes_behind j m v)

@@ -6,11 +6,12 @@ use native.Mathlib.Nat.{mod-lt, div-one, mul_assoc, mul-add-mod_self_right, mul-
 use native.Mathlib.Numerals.{add-one}
 use native.Mathlib.Omega.{arith}
 use lib.ListN.{length, take, drop, get_or, length-drop, length-take, take-append-drop}
-use lib.Seq.{take-suc, length-take-le, take-add, drop-drop, sets, sets-eq}
+use lib.Seq.{take_all, take-suc, length-take-le, take-add, drop-drop, sets, sets-eq}
 use lib.Pow.{pow_pos, pow-add, pow_mono, shl_lt}
+use Rattle.std.specs.Int.{w32, to_be_bytes}
 use Rattle.rules.specs.Bits.{number, first_bits, field_at, bytes_for, bytes_of, packed}
 use Rattle.bits.specs.Writing.{Bytes, written, put_at}
-use Rattle.bits.proofs.Bytes.{number_one, number_append, number_lt, drop_bytes, take_bytes, bytes_number, bytes_of_append, length_bytes_of}
+use Rattle.bits.proofs.Bytes.{high_first, bytes_behind, number_one, number_append, number_lt, drop_bytes, take_bytes, bytes_number, bytes_of_append, length_bytes_of}
 use Rattle.bits.proofs.Fields.{first_append}
 
 -- ---- bytes as one number
@@ -91,6 +92,23 @@ first_byte d from u hd h₁ h₂ =
     ∙ ap (λ (n : ℕ). (n + b) / 2 ^ (8 - u)) up
     ∙ mul-add-div_right (pow_pos (8 - u)) (number a * 2 ^ u) b
     ∙ ap (λ (n : ℕ). n * 2 ^ u + b / 2 ^ (8 - u)) (sym (first_bytes d from hd (omega arith)))
+
+-- the last n of the four bytes that spell x
+pub last_bytes : (n x : ℕ) → n ≤ 4 → take (4 - (4 - n)) (drop (4 - n) (to_be_bytes w32 x)) ≡ bytes_of n x
+last_bytes n x h =
+    let k : 4 - (4 - n) ≡ n = omega arith in
+    let all : 4 ≡ 4 - n + n = omega arith in
+    ap₂ (λ (i : ℕ) (l : List ℕ). take i (drop (4 - n) l)) k (high_first 4 x ∙ ap (λ (i : ℕ). bytes_of i x) all)
+    ∙ ap (take n) (bytes_behind (4 - n) n x)
+    ∙ take_all n (bytes_of n x) (omega (arith, length_bytes_of n x))
+
+-- at most 32 bits, with zero bits behind them to a whole byte, are a u32
+pub whole_fits : (k v : ℕ) {x : ℕ} → k ≤ 32 → v < 2 ^ k → x ≡ v * 2 ^ (8 * ((k + 7) / 8) - k) + 0 → x < 2 ^ 32
+whole_fits k v h hv e =
+    let f : ℕ = 8 * ((k + 7) / 8) - k in
+    let bits : k + f ≤ 32 = omega arith in
+    let small : v * 2 ^ f < 2 ^ 32 = lt_of_lt_of_le (shl_lt k f hv) (pow_mono bits) in
+    omega (arith, e, small)
 
 -- n bytes from byte `at` on, lent and given back as those that spell x
 pub part_put : (d ys : List ℕ) (at n x : ℕ) → at + n ≤ length d → ys ≡ bytes_of (length (take (at + n - at) (drop at d))) x

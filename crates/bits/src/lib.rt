@@ -8,8 +8,7 @@
 // indices, or coordinates of 30 bits: what differs between them is said once (`Entry`).
 #![tactic(auto)]
 
-ghost use Rattle.std.specs.Prelude.{◌≡◌, false, map, ℕ, ◌+◌, ◌*◌, ◌/◌, ◌%◌, ◌^◌, ◌≤◌, ◌<◌, length, take, drop, All, refl};
-ghost use Rattle.std.proofs.lemmas.List.Edits.{sets};
+ghost use Rattle.std.specs.Prelude.{◌≡◌, false, map, ℕ, ◌+◌, ◌*◌, ◌/◌, ◌%◌, ◌^◌, ◌≤◌, ◌<◌, length, All, refl};
 ghost use Rattle.rules.specs.Lists.{overwritten};
 ghost use Rattle.rules.specs.Refusals.{outside};
 ghost use Rattle.rules.specs.Bits.{number, field_at, table_at, bytes_of, width_of};
@@ -41,7 +40,8 @@ fn cut(x: u64, below: u32, k: u32) -> u64
 
 // ---- bytes as one number
 
-// The number that bytes spell: at most eight.
+// The number that bytes spell: at most eight. One by one: by `from_be_bytes`, with the last eight as an array (`split_last_chunk`), reading
+// takes 4.4 % more instructions, and with zeros put before fewer bytes 8.4 %.
 fn get_bytes(s: &[u8]) -> u64
     requires { length s.now ≤ 8 }
     ensures { result ≡ number s.now }
@@ -53,15 +53,13 @@ fn get_bytes(s: &[u8]) -> u64
     x
 }
 
-// Stores the bytes that spell x, at most four. By index, since its distance from the last says which byte of x one is.
-fn put_bytes(d: &mut [u8], x: u64)
+// Stores the bytes that spell x: at most four, its last.
+fn put_bytes(d: &mut [u8], x: u32)
     requires { length d.old ≤ 4 }
     ensures { d.new ≡ bytes_of (length d.old) x }
 {
     let n = d.len();
-    for i in 0..n {
-        d[i] = cut(x, (8 * (n - 1 - i)) as u32, 8) as u8;
-    }
+    d.copy_from_slice(&x.to_be_bytes()[4 - n..]);
 }
 
 // ---- a field out of bytes
@@ -82,7 +80,8 @@ pub fn get_field(s: &[u8], at: usize, k: u32) -> u32
 
 // ---- fields into bytes
 
-// Writes the k bits of v behind the first `at` bits, and zero bits behind them to a whole byte. Answers the bit behind the field.
+// Writes the k bits of v behind the first `at` bits, and zero bits behind them to a whole byte. Answers the bit behind the field. That a width
+// is at most 32 and a value fits it stands in three contracts: a struct of both would be made for one call.
 pub fn put_field(d: &mut [u8], at: usize, k: u32, v: u32) -> usize
     requires { (0 < k) × (k ≤ 32) × (v < 2 ^ k) × (at + k ≤ 8 * length d.old) × (at + k ≤ 2 ^ 60) }
     ensures { (result ≡ at + k) × (d.new ≡ put_at d.old at k v) }

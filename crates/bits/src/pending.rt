@@ -42,7 +42,7 @@ impl Pending {
             return Pending { at, count, bits };
         }
         let left = count - 32;
-        put_bytes(&mut d[at..at + 4], cut(bits, left, 32));
+        put_bytes(&mut d[at..at + 4], cut(bits, left, 32) as u32);
         Pending {
             at: at + 4,
             count: left,
@@ -57,7 +57,7 @@ impl Pending {
     {
         let n = (self.count + 7) / 8;
         let bits = append(self.bits, 8 * n - self.count, 0);
-        put_bytes(&mut d[self.at..self.at + n as usize], bits);
+        put_bytes(&mut d[self.at..self.at + n as usize], bits as u32);
         8 * self.at + (self.count as usize)
     }
 }

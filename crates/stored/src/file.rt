@@ -1,4 +1,4 @@
-// The checks of a whole file, in reading's order up to 4. Nothing is stored.
+// The checks of a whole file, in reading's order up to `CornerOutOfRange`. Nothing is stored.
 ghost use Rattle.std.specs.Prelude.{◌≡◌, ◌+◌, ◌*◌, ◌^◌, ◌≤◌, length, leb};
 ghost use Rattle.rules.specs.Answers.{refusal_of, counts_answer_of};
 ghost use Rattle.rules.specs.Bits.{table_at};
@@ -11,7 +11,8 @@ use crate::header::{HeadedFile, read_counts};
 use crate::layout::{Layout, layout_of};
 use rules::{Counts, Refusal};
 
-// Whether some corner is not below n: all tables of corners are one row of fields. Fields are no elements, so that the loop counts them.
+// Whether some corner is not below n: all tables of corners are one row of fields. A loop: with `(0..at.corners).any(..)`, which proves, reading
+// takes 8.5 % more instructions.
 fn reaches(s: &[u8], at: Layout, n: u32) -> bool
     requires { (at.width ≤ 32) × (at.hexes + at.width * at.corners ≤ 8 * length s.now) × (at.hexes + at.width * at.corners ≤ 2 ^ 60) }
     ensures { result ≡ any (leb n) (table_at s.now at.hexes at.width at.corners) }
@@ -27,7 +28,7 @@ fn reaches(s: &[u8], at: Layout, n: u32) -> bool
     false
 }
 
-// What stands behind the header: 13 for the whole length, 16 for a filling bit, 4 for a corner.
+// What stands behind the header: `WrongFileLength` for the whole length, `NonzeroPadding` for a filling bit, `CornerOutOfRange` for a corner.
 fn check_body(file: HeadedFile) -> Result<(), Refusal>
     requires { whole_header_checks file.bytes.now 0 ≡ 0 }
     ensures { refusal_of result ≡ body_checks file.entry.bytes.now 0 }

@@ -7,7 +7,9 @@ ghost use Rattle.rules.specs.StoredForm.{wrong_width, header_answer};
 
 use rules::{Counts, Refusal, Sizes};
 
-// How many bytes hold the header.
+// How many bits the header has, and how many bytes hold it.
+pub const HEADER_BITS: usize = 101;
+
 const HEADER_BYTES: usize = 13;
 
 // A file whose header passes its checks, but for the width, and the header's counts.
@@ -19,7 +21,7 @@ pub struct HeadedFile<'a> {
 }
 
 impl HeadedFile<'_> {
-    // The index width: 15 unless it is that of the count of vertices.
+    // The index width: `WrongIndexWidth` unless it is that of the count of vertices.
     pub fn check_width(self) -> Result<(), Refusal>
         ensures { refusal_of result ≡ check (wrong_width self.entry.bytes.now) 15 0 }
     {
@@ -31,8 +33,8 @@ impl HeadedFile<'_> {
     }
 }
 
-// The counts of a header: 13 for a file that is too short for one, 14 and 2, in this order. The width, which stands behind the form number,
-// is left out.
+// The counts of a header: `WrongFileLength` for a file that is too short for one, `UnknownForm` and `CountOutOfRange`, in this order. The width,
+// which stands behind the form number, is left out.
 pub fn read_counts(s: &[u8]) -> Result<Counts, Refusal>
     ensures { counts_answer_of result ≡ header_answer s.now }
 {

@@ -3,6 +3,7 @@ ghost use Rattle.std.specs.Prelude.{◌≡◌, false};
 ghost use Rattle.rules.specs.Counts.{out_of_range};
 ghost use Rattle.stored.specs.Form.{Laid};
 
+use crate::header::HEADER_BITS;
 use rules::Counts;
 
 // The index width, the bits at which the corners of each kind begin, how many corners there are, the bit behind the last, and the bytes that
@@ -26,7 +27,7 @@ pub fn layout_of(c: Counts) -> Layout
 {
     let width = bits::index_width(c.vertices - 1);
     let w = width as usize;
-    let hexes = 101 + 30 * (3 * (c.vertices as usize));
+    let hexes = HEADER_BITS + 30 * (3 * (c.vertices as usize));
     let quads = hexes + w * (8 * (c.hexes as usize));
     let segments = quads + w * (4 * (c.quads as usize));
     let points = segments + w * (2 * (c.segments as usize));

@@ -1,9 +1,9 @@
 // The stored form of a mesh: reading (`read`), writing (`write`), and the counts in a header (`header_counts`), the three entry points.
 //
 // Reading goes over the file twice. `file::check_file` makes the checks in the order of rule 9.4 and answers the counts. Only then, and if the
-// lent tables have room, the tables are stored (`reading`). Writing makes the checks 1 to 4 of `checks`, asks for room, and puts the header and
-// the five tables (`writing`). `layout` says where each table begins; a table more is a line there, one in `store_tables` and one in
-// `put_mesh`.
+// lent tables have room, the tables are stored (`reading`). Writing makes the checks up to `CornerOutOfRange` (`checks`), asks for room, and
+// puts the header and the five tables (`writing`). `layout` says where each table begins; a table more is a line there, one in `store_tables`
+// and one in `put_mesh`.
 //
 // Both promise the answer and all lent memory by the rules' equations, and that the one undoes the other: what stands in lent memory on
 // return is accepted by the other, and gives back what was there at entry.

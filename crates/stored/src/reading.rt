@@ -5,7 +5,7 @@ ghost use Rattle.rules.specs.EntryPoints.{result_tables};
 ghost use Rattle.rules.specs.StoredForm.{stored_mesh, reading_refusal};
 ghost use Rattle.tables.specs.Lent.{mesh_at, SameSlices};
 
-use crate::header::HeadedFile;
+use crate::header::{HEADER_BITS, HeadedFile};
 use crate::layout::layout_of;
 use tables::LentTables;
 
@@ -19,7 +19,7 @@ pub fn store_tables(file: HeadedFile, lent: &mut LentTables)
     let c = file.counts;
     let at = layout_of(c);
     let w = at.width;
-    bits::get_table(s, 101, 30, lent.vertices, 3 * c.vertices as usize);
+    bits::get_table(s, HEADER_BITS, 30, lent.vertices, 3 * c.vertices as usize);
     bits::get_table(s, at.hexes, w, lent.hexes, 8 * c.hexes as usize);
     bits::get_table(s, at.quads, w, lent.quads, 4 * c.quads as usize);
     bits::get_table(s, at.segments, w, lent.segments, 2 * c.segments as usize);

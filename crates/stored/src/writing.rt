@@ -7,6 +7,7 @@ ghost use Rattle.rules.specs.StoredForm.{form_number, index_width, header_fields
 ghost use Rattle.bits.specs.Writing.{put_all};
 ghost use Rattle.tables.specs.Lent.{mesh_in};
 
+use crate::header::HEADER_BITS;
 use rules::Counts;
 use tables::MeshTables;
 
@@ -14,7 +15,7 @@ use tables::MeshTables;
 fn put_header(d: &mut [u8], width: u32, c: Counts) -> usize
     requires header_fits { (13 ≤ length d.old) × (width < 2 ^ 5) × (c.vertices < 2 ^ 20) }
     requires counts_fit { (c.hexes < 2 ^ 18) × (c.quads < 2 ^ 18) × (c.segments < 2 ^ 18) × (c.points < 2 ^ 18) }
-    ensures { (result ≡ 101) × (d.new ≡ put_all d.old 0 (header_fields (record { form = form_number; width = width; counts = c }))) }
+    ensures { (result ≡ HEADER_BITS) × (d.new ≡ put_all d.old 0 (header_fields (record { form = form_number; width = width; counts = c }))) }
 {
     let at = bits::put_field(d, 0, 4, 1);
     let at = bits::put_field(d, at, 5, width);

@@ -1,18 +1,9 @@
--- Byte i of x is the one with n - 1 - i bytes below it.
-use Rattle.std.proofs.Common.{ℕ, length, sym, ◌∙◌, arith}
-use Rattle.memory.proofs.Stores.{front_turn, store_end, sets_whole}
-use Rattle.bits.proofs.Bytes.{get_or_bytes_of, length_bytes_of}
+-- The last bytes of the four that spell x (`last_bytes`).
+use Rattle.std.proofs.Common.{ℕ, ◌-◌, List, length, take, drop, ap, ◌∙◌}
+use Rattle.bits.proofs.Windows.{last_bytes}
 use Rattle.bits.proofs.put_bytes.Goals as goal
-
-pub loop-i-preserved : goal.loop-i-preserved
-loop-i-preserved c =
-    let a = c.args in
-    let n : ℕ = length a.d.now in
-    let i = c.loop-i.i in
-    front_turn 0 (c.cut.ensures ∙ sym (get_or_bytes_of n a.x i _ (omega arith))) c.loop-i.invariant (omega (arith, length_bytes_of n a.x))
 
 pub returns : goal.returns
 returns c =
-    let a = c.args in
-    let n : ℕ = length a.d.now in
-    store_end c.loop-i.invariant (omega (arith, length_bytes_of n a.x)) ∙ sets_whole a.d.now _ (length_bytes_of n a.x)
+    let n : ℕ = length c.args.d.now in
+    c.copy_from_slice.ensures.after ∙ ap (λ (l : List ℕ). take (4 - (4 - n)) (drop (4 - n) l)) c.to_be_bytes.ensures ∙ last_bytes n c.args.x c.requires

@@ -20,29 +20,19 @@ known : (c : After-layout_of-at) → Storable c.args.file.bytes.now c.args.file.
 known c = storable c.args.file.bytes.now c.args.file.counts c.layout_of-at.result (mesh_at c.args.lent.now) (headed c.args.file).1 c.requires c.layout_of-at.ensures
 
 pub get_table-requires-clause-room : goal.get_table-requires-clause-room
-get_table-requires-clause-room c =
-    let k = known (goal.at.get_table-requires-clause-room c).After-layout_of-at in
-    omega (arith, k.body.numbers, k.body.small.width, k.long, k.room.vertices)
+get_table-requires-clause-room c = omega (arith, known (goal.at.get_table-requires-clause-room c).After-layout_of-at)
 
 pub get_table-requires-2-clause-room : goal.get_table-requires-2-clause-room
-get_table-requires-2-clause-room c =
-    let k = known (goal.at.get_table-requires-2-clause-room c).After-layout_of-at in
-    omega (arith, k.body.numbers, k.body.small.width, k.long, k.room.hexes)
+get_table-requires-2-clause-room c = omega (arith, known (goal.at.get_table-requires-2-clause-room c).After-layout_of-at)
 
 pub get_table-requires-3-clause-room : goal.get_table-requires-3-clause-room
-get_table-requires-3-clause-room c =
-    let k = known (goal.at.get_table-requires-3-clause-room c).After-layout_of-at in
-    omega (arith, k.body.numbers, k.body.small.width, k.long, k.room.quads)
+get_table-requires-3-clause-room c = omega (arith, known (goal.at.get_table-requires-3-clause-room c).After-layout_of-at)
 
 pub get_table-requires-4-clause-room : goal.get_table-requires-4-clause-room
-get_table-requires-4-clause-room c =
-    let k = known (goal.at.get_table-requires-4-clause-room c).After-layout_of-at in
-    omega (arith, k.body.numbers, k.body.small.width, k.long, k.room.segments)
+get_table-requires-4-clause-room c = omega (arith, known (goal.at.get_table-requires-4-clause-room c).After-layout_of-at)
 
 pub get_table-requires-5-clause-room : goal.get_table-requires-5-clause-room
-get_table-requires-5-clause-room c =
-    let k = known (goal.at.get_table-requires-5-clause-room c).After-layout_of-at in
-    omega (arith, k.body.numbers, k.body.small.width, k.long, k.room.points)
+get_table-requires-5-clause-room c = omega (arith, known (goal.at.get_table-requires-5-clause-room c).After-layout_of-at)
 
 pub returns-clause-after : goal.returns-clause-after
 returns-clause-after c =

@@ -2,8 +2,11 @@
 use Rattle.std.proofs.Common.{ℕ, ◌+◌, ◌*◌, ◌/◌, ◌^◌, ◌-◌, refl, ap, ◌∙◌, add-zero, arith, rules}
 use Rattle.std.proofs.lemmas.List.Edits.{sets}
 use Rattle.rules.specs.Bits.{bytes_of}
-use Rattle.bits.proofs.Windows.{part_put, put_bytes}
+use Rattle.bits.proofs.Windows.{part_put, put_bytes, whole_fits}
 use Rattle.bits.proofs.pending.Pending.settle.Goals as goal
+
+pub overflow_cast-bits : goal.overflow_cast-bits
+overflow_cast-bits c = record { fits = whole_fits c.args.self.count c.args.self.bits c.args.self.few c.args.self.spelled c.append-bits.ensures }
 
 pub returns : goal.returns
 returns c =
