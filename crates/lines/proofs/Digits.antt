@@ -66,7 +66,7 @@ printed_words (suc k) [] h = refl
 printed_words (suc k) (n ∷ ns) h = rw (printed_one n (omega (arith, h 0)), printed_words k ns (λ i. h (suc i))) refl
 
 -- and a minus sign before those of a number below zero
-printed_signed : (z : ℤ) → SFits w64 z → signed z ≡ signed_decimal z
+pub printed_signed : (z : ℤ) → SFits w64 z → signed z ≡ signed_decimal z
 unfolding signed_decimal
 printed_signed (pos n) h = printed_one n (omega (arith, h.sfits))
 printed_signed (negsuc n) h = ap (λ (ds : List ℕ). 45 ∷ ds) (printed_one (suc n) (omega (arith, h.sfits)))

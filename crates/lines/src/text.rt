@@ -32,14 +32,22 @@ impl Text<'_> {
         self.length = end;
     }
 
+    // A number, as the kit prints it: its digits are those of the rules (proofs/Digits.antt).
+    pub fn push_number<I: Integer>(&mut self, number: I)
+        requires { Room self.old (I.text number) }
+        ensures { Appended self.old self.new (I.text number) }
+    {
+        let mut buffer = Buffer::new();
+        self.push_word(buffer.format(number).as_bytes());
+    }
+
     // A field: a number behind a space.
     pub fn push_field<I: Integer>(&mut self, number: I)
         requires { Room self.old (text " " ++ I.text number) }
         ensures { Appended self.old self.new (text " " ++ I.text number) }
     {
-        let mut buffer = Buffer::new();
         self.push_byte(b' ');
-        self.push_word(buffer.format(number).as_bytes());
+        self.push_number(number);
     }
 
     // A line: its first word, numbers, and the line feed.

@@ -2,8 +2,8 @@
 use Rattle.lines.proofs.Runs.{◌then◌, room_rest}
 use Rattle.lines.proofs.text.Text.push_field.Goals as goal
 
-pub push_word-requires : goal.push_word-requires
-push_word-requires g c = rw (c.as_bytes.ensures.value, c.format.ensures.text) (room_rest _ c.push_byte.ensures c.requires)
+pub push_number-requires : goal.push_number-requires
+push_number-requires g c = room_rest _ c.push_byte.ensures c.requires
 
 pub returns : goal.returns
-returns g c = c.push_byte.ensures then (rw (c.as_bytes.ensures.value, c.format.ensures.text) at c.push_word.ensures)
+returns g c = c.push_byte.ensures then c.push_number.ensures
