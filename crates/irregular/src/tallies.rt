@@ -6,7 +6,7 @@ ghost use Rattle.tables.specs.Lent.{mesh_in};
 ghost use Rattle.irregular.specs.Times.{irregular_in, corner_count};
 ghost use Rattle.irregular.specs.Tallied.{Tallied, Counted, Ranked, unusual};
 
-use checks::marks::mark;
+use checks::marks::{mark, place_in_window};
 use tables::MeshTables;
 
 // A mesh whose corners a number can count.
@@ -54,12 +54,14 @@ impl Window<'_> {
         ensures tallied { Tallied self.old.first rank self.old.ranks.now table.now self.old.valences.now self.new.valences.now }
     {
         let first = self.first;
+        // By `&mut`, though they are only read: of a slice lent by `&` it is not known at the end of the loop that the struct holds it still.
         let ranks = &mut *self.ranks;
         let valences = &mut *self.valences;
         for corner in table {
-            let v = *corner as usize;
-            if first <= v && v - first < ranks.len() && rank == ranks[v - first] {
-                valences[v - first] += 1;
+            if let Some(place) = place_in_window(*corner as usize, first, ranks.len()) {
+                if rank == ranks[place] {
+                    valences[place] += 1;
+                }
             }
         }
     }
