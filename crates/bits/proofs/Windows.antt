@@ -94,12 +94,12 @@ first_byte d from u hd h₁ h₂ =
     ∙ ap (λ (n : ℕ). n * 2 ^ u + b / 2 ^ (8 - u)) (sym (first_bytes d from hd (omega arith)))
 
 -- the last n of the four bytes that spell x
-pub last_bytes : (n x : ℕ) → n ≤ 4 → take (4 - (4 - n)) (drop (4 - n) (to_be_bytes w32 x)) ≡ bytes_of n x
-last_bytes n x h =
-    let k : 4 - (4 - n) ≡ n = omega arith in
-    let all : 4 ≡ 4 - n + n = omega arith in
-    ap₂ (λ (i : ℕ) (l : List ℕ). take i (drop (4 - n) l)) k (high_first 4 x ∙ ap (λ (i : ℕ). bytes_of i x) all)
-    ∙ ap (take n) (bytes_behind (4 - n) n x)
+pub last_bytes : (n x from v : ℕ) {l : List ℕ} → n ≤ 4 → l ≡ to_be_bytes w32 v → v ≡ x → from ≡ 4 - n → take (4 - from) (drop from l) ≡ bytes_of n x
+last_bytes n x from v h e same place =
+    let k : 4 - from ≡ n = omega arith in
+    let all : 4 ≡ from + n = omega arith in
+    ap₂ (λ (i : ℕ) (t : List ℕ). take i (drop from t)) k (e ∙ high_first 4 v ∙ ap₂ bytes_of all same)
+    ∙ ap (take n) (bytes_behind from n x)
     ∙ take_all n (bytes_of n x) (omega (arith, length_bytes_of n x))
 
 -- at most 32 bits, with zero bits behind them to a whole byte, are a u32
