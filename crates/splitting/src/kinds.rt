@@ -44,8 +44,8 @@ impl CellKind {
         }
     }
 
-    // The table of the smallest parts, row after row, and zeros behind it: there is no heap, and the longest has 64. It is listed once for a
-    // whole table of cells.
+    // The table of the smallest parts, row after row, and zeros behind it; the longest has 64. It is listed once for a whole table of cells. No
+    // `ArrayVec`, as for `Parts::listed`: a table is copied whole.
     pub fn smallest_parts(self) -> [u8; 64]
         ensures { take (length (smallest_listed self)) result ≡ smallest_listed self }
     {
