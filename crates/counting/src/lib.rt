@@ -63,7 +63,7 @@ pub fn fewer(lent: Sizes, needed: Sizes) -> bool
         || lent.points < needed.points
 }
 
-// The five counts among the sizes.
+// The five counts among the sizes. No `TryFrom`: each caller knows that they are narrow, and an `Err` would be a branch that none takes.
 #[tactic(auto, unfolding(rules::specs::Counts::counts_in))]
 pub fn counts_in(sizes: Sizes) -> Counts
     requires { Narrow sizes }
