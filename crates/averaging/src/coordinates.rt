@@ -38,7 +38,7 @@ pub struct Gathered<const N: usize> {
 }
 
 impl<const N: usize> Gathered<N> {
-    // By index: with a `map` over the cell refining takes 0.4 % more instructions (hexes, quads) to 0.9 % more (segments).
+    // By index: with a `map` over the cell refining takes 0.4 % more instructions (hexes, quads) to 0.9 % more (segments, over the bar).
     pub fn of(cell: &[u32; N], vertices: &[[i32; 3]]) -> Gathered<N>
         requires few { N ≤ 8 }
         requires known { Known (length vertices.now) cell.now }

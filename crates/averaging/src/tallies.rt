@@ -8,7 +8,8 @@ use crate::coordinates::Gathered;
 use crate::entries::entries;
 
 // The rank and the valence of each vertex, and its sums on the three axes: two slices, as C lends words and longs. That they have one length is
-// a part of `Spare`, which all that count ask for anyway, so it is no field of its own.
+// a part of `Spare`, which all that count ask for; `reset` and `finish`, which count nothing, ask for it by itself. A field would spare their two
+// clauses, and stand beside `Spare` all the same.
 #[derive(Drop)]
 pub struct Tallies<'a> {
     pub ranks: &'a mut [[u32; 2]],

@@ -81,7 +81,8 @@ pub fn get_field(s: &[u8], at: usize, k: u32) -> u32
 // ---- fields into bytes
 
 // Writes the k bits of v behind the first `at` bits, and zero bits behind them to a whole byte. Answers the bit behind the field. That a width
-// is at most 32 and a value fits it stands in three contracts: a struct of both would be made for one call.
+// is at most 32, that a field lies in the file and that bits are counted below 2^60 is asked in each contract here, and that a value fits its
+// width in three: a struct of these would be made for one call.
 pub fn put_field(d: &mut [u8], at: usize, k: u32, v: u32) -> usize
     requires { (0 < k) × (k ≤ 32) × (v < 2 ^ k) × (at + k ≤ 8 * length d.old) × (at + k ≤ 2 ^ 60) }
     ensures { (result ≡ at + k) × (d.new ≡ put_at d.old at k v) }

@@ -46,7 +46,8 @@ pub mod table_checks;
 // A table of keys with tags.
 pub mod tagged;
 
-// Whether two cells of a table have one corner set; a cell has C corners, and the parts are the cells themselves.
+// Whether two cells of a table have one corner set; a cell has C corners, and the parts are the cells themselves. That no cell of the table names
+// a corner twice is asked here and twice below: a struct of one slice would be made for each table, where `PlainMesh` has all four.
 #[tactic(auto, using(crate::proofs::Duplicates::duplicates_by_count, crate::proofs::Duplicates::cell_keys))]
 fn has_duplicate<const C: usize>(words: &mut [u32], of: Parts, cells: &[u32]) -> bool
     requires whole_cells { (C ≡ cell_corners of) × (part_corners of ≡ cell_corners of) }
@@ -93,13 +94,17 @@ fn check_cells_with(words: &mut [u32], mesh: MeshTables) -> Result<usize, Refusa
     Ok(faces)
 }
 
-// Whether an array of 8192 numbers serves better than so many lent ones: these are fewer, and may not hold the edges and faces of cells with
+// How many numbers an array has that serves where fewer are lent.
+pub const OWN_NUMBERS: usize = 8192;
+
+// Whether an array of `OWN_NUMBERS` serves better than so many lent ones: these are fewer, and may not hold the edges and faces of cells with
 // so many corners. Three functions lend such an array by it, two here and one of the irregular count. One that takes what each does as a closure
-// would be no plainer: each closure would have to say the contract again that its function has.
+// would be no plainer: each closure would have to say the contract again that its function has. Nor is a function that adds up the corners: its
+// contract would be longer than the sum.
 pub fn is_little(words: usize, corners: usize) -> bool
     ensures { result ≡ false → 6 ≤ words }
 {
-    words < 8192 && words / 6 <= corners
+    words < OWN_NUMBERS && words / 6 <= corners
 }
 
 // 5 to 8 in order. Where little is lent, an array of its own serves instead.
@@ -109,7 +114,7 @@ fn check_cells(words: &mut [u32], mesh: MeshTables) -> Result<usize, Refusal>
 {
     let corners = mesh.hexes.len() + mesh.quads.len() + mesh.segments.len() + mesh.points.len();
     if is_little(words.len(), corners) {
-        return check_cells_with(&mut [0u32; 8192], mesh);
+        return check_cells_with(&mut [0u32; OWN_NUMBERS], mesh);
     }
     check_cells_with(words, mesh)
 }
@@ -149,7 +154,7 @@ fn edge_count(words: &mut [u32], mesh: PlainMesh) -> usize
     }
     let corners = mesh.tables.hexes.len() + mesh.tables.quads.len() + mesh.tables.segments.len();
     if is_little(words.len(), corners) {
-        return edge_count_with(&mut [0u32; 8192], mesh);
+        return edge_count_with(&mut [0u32; OWN_NUMBERS], mesh);
     }
     edge_count_with(words, mesh)
 }

@@ -36,7 +36,8 @@ pub fn has_duplicate<const C: usize>(table: &[u32]) -> bool
     )
 }
 
-// Whether the parts i and j have one corner set.
+// Whether the parts i and j have one corner set. That a number is one of a part is asked in five contracts: a struct of one number is no
+// plainer.
 fn same_parts(of: Part, mesh: PlainMesh, i: usize, j: usize) -> bool
     requires { (i < length (parts_met of mesh.tables)) × (j < length (parts_met of mesh.tables)) }
     ensures { let ps = parts_met of mesh.entry.tables in result ≡ same (key_of (get_or ps i [])) (key_of (get_or ps j [])) }

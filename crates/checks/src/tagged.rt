@@ -6,7 +6,7 @@ ghost use Rattle.checks.specs.Tagged.{Tagged};
 use numbering::{count, keys, table};
 
 // Why keys are not all met: one was met before with another tag, or there is no room for one.
-#[derive(Clone, Copy)]
+#[derive(Clone, Copy, Debug, PartialEq, Eq)]
 pub enum Stopped {
     Differs,
     Full,

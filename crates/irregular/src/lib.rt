@@ -27,7 +27,7 @@ fn count(mesh: MeshTables, words: &mut [u32]) -> u64
     let few = FewCorners { tables: mesh };
     let corners = mesh.hexes.len() + (mesh.quads.len() + (mesh.segments.len() + mesh.points.len()));
     if checks::is_little(words.len(), corners) {
-        let mut own = [0u32; 8192];
+        let mut own = [0u32; checks::OWN_NUMBERS];
         return tallies::count(&mut own, few);
     }
     tallies::count(words, few)

@@ -1,5 +1,5 @@
 // What the listing program prints, as bytes in a buffer.
-// Rests on `fixed` for the mesh that is read and refined.
+// Rests on `fixed` for the mesh that is read and refined, on `counting` for the counts of the first line, on the kit's `itoa` for digits.
 // Promises of `lines`, for every input: the rules' bytes stand at the front of the output, and the answer is how many they are.
 #![tactic(auto)]
 

@@ -25,7 +25,8 @@ fn count_holding(v: u32, kind: Kind, table: &[u32]) -> usize
         .count()
 }
 
-// The table of the lowest dimension that has a cell with the vertex decides.
+// The table of the lowest dimension that has a cell with the vertex decides. Kind by kind, written out: a loop over kinds would need the four
+// tables in an array, and a law that says where it stops.
 pub fn rank_of(v: u32, mesh: MeshTables) -> Ranked
     ensures ranks { result.rank ≡ rank (topology (mesh_in mesh.entry)) v }
     ensures counts { result.valence ≡ valence (topology (mesh_in mesh.entry)) v }

@@ -99,7 +99,8 @@ impl Parts {
     }
 }
 
-// Reads the numbers that stand at these places.
+// Reads the numbers that stand at these places. That each place is one of the cell's is asked five times from here on: the places are listed for
+// a kind of cells, and the cell is another slice each turn, so a struct of both would be made for each cell.
 pub fn load(places: &[u8], from: &[u32], to: &mut [u32])
     requires to_len { length to.old ≡ length places.now }
     requires within { Within (length from.now) places.now }
@@ -158,7 +159,7 @@ pub fn meet_parts<const C: usize>(
     ensures { Numbering C w.old w.new room n (listed_keys C places.now cell.now) base numbers.old numbers.new result }
 {
     let mut known = n;
-    // By their numbers: over `chunks_exact(C).enumerate()` a split takes 3 % more steps.
+    // By their numbers: over `chunks_exact(C).enumerate()` splitting takes 3 % more instructions.
     for part in 0..part_count(places.len(), C) {
         let at = C * part;
         let met = meet_part::<C>(w, room, known, &places[at..at + C], cell)?;

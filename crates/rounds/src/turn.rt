@@ -14,7 +14,7 @@ use tables::{LentTables, MeshTables};
 
 // One round, from a mesh to the fronts of tables. They are lent one by one, since four of them are read while the coordinates are written:
 // behind one `&mut` the borrow checker does not let them, and working numbers that are fields cost refining 2 % more instructions.
-// Kept apart from its caller: inlined there, refining takes half a per cent more instructions.
+// Kept apart from its caller: inlined there, refining takes up to 0.7 % more instructions.
 #[inline(never)]
 fn round(
     sizes: Sizes,
@@ -36,6 +36,7 @@ fn round(
     let faces = sizes.faces as usize;
     splitting::split(mesh, edges, faces, words, hexes, quads, segments, points);
     let finer = counting::next_sizes(sizes);
+    // No `front`: the finer coordinates are not there yet.
     let fine = MeshTables {
         vertices: mesh.vertices,
         hexes: &hexes[..8 * finer.hexes as usize],

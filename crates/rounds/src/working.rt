@@ -1,5 +1,6 @@
 // The numbers that are lent for working: they travel together from the entry points down to the round. The working tables go beside them: a
-// struct of both would have seven lifetimes, and no clause would be shorter by it. So do the output tables, which are no memory for working.
+// struct of both would have seven lifetimes, and what it would spare is one clause of two in five contracts. So do the output tables, which are no
+// memory for working.
 ghost use Rattle.std.specs.Prelude.{◌≡◌};
 ghost use Rattle.rules.specs.EntryPoints.{cleared};
 ghost use Rattle.rounds.specs.Working.{SameNumbers};
