@@ -2,7 +2,7 @@
 use Prim.Native.Nat.{ℕ, zero, suc, ◌+◌, ◌*◌, ◌/◌, ◌%◌, ◌^◌, ◌<◌}
 use mathlib.Core.Path.{◌≡◌, refl, sym, ap, ap₂, ◌∙◌}
 use mathlib.Core.List.{List, [], ◌∷◌, ◌++◌}
-use native.Mathlib.Nat.{div-one, pow-suc, mul-add, mul-suc, mul_comm, mod-eq_of_lt, suc-add, zero-add, mod-one, mul-add-mod_self_right, mul-add-div_right}
+use native.Mathlib.Nat.{div-one, pow-suc, mul-add, mul-suc, mul_comm, mod-lt, mod-eq_of_lt, suc-add, zero-add, mod-one, mul-add-mod_self_right, mul-add-div_right}
 use native.Mathlib.Omega.{arith}
 use lib.ListN.{length, take, drop, length-append}
 use lib.Seq.{get_or-drop}
@@ -52,6 +52,13 @@ take_bytes zero d h i = lit< tt
 take_bytes (suc n) [] h i = h i
 take_bytes (suc n) (x ∷ d) h zero = h 0
 take_bytes (suc n) (x ∷ d) h (suc i) = take_bytes n d (bytes_tail x d h) i
+
+-- the bytes of a number are bytes
+pub bytes_of_bytes : (m v : ℕ) → Bytes (bytes_of m v)
+unfolding bytes_of
+bytes_of_bytes zero v i = lit< tt
+bytes_of_bytes (suc m) v zero = mod-lt (v / 2 ^ (8 * m)) (lit< tt)
+bytes_of_bytes (suc m) v (suc i) = bytes_of_bytes m v i
 
 pub length_bytes_of : (m v : ℕ) → length (bytes_of m v) ≡ m
 unfolding bytes_of

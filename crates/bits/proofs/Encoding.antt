@@ -13,7 +13,7 @@ use Rattle.rules.specs.StoredForm.{table_fields}
 use Rattle.bits.specs.Writing.{Bytes, Fit}
 use Rattle.bits.proofs.Shifts.{append_lt}
 use Rattle.bits.proofs.Bytes.{bytes_number}
-use Rattle.bits.proofs.Fields.{first_shr, first_split, first_none, first_packed, bytes_for_ge, length_packed, number_packed}
+use Rattle.bits.proofs.Fields.{first_shr, first_split, first_none, first_packed, bytes_for_ge, length_packed, number_packed, packed_bytes}
 
 -- ---- lists of fields
 
@@ -52,6 +52,11 @@ fit_table w (v ∷ t) h = (h 0, fit_table w t (λ i. h (suc i)))
 pub length_encode : (fs : List Field) → length (encode fs) ≡ bytes_for (bits_in fs)
 unfolding encode
 length_encode fs = length_packed (bits_in fs) (spelled fs)
+
+-- a stored form is a list of bytes
+pub encode_bytes : (fs : List Field) → Bytes (encode fs)
+unfolding encode
+encode_bytes fs = packed_bytes (bits_in fs) (spelled fs)
 
 -- the filling bits of a stored form are zero
 pub encode_filling : (fs : List Field) → Fit fs → number (encode fs) % 2 ^ filling (bits_in fs) ≡ 0

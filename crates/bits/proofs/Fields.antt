@@ -8,7 +8,7 @@ use lib.ListN.{length, length-append}
 use lib.Pow.{pow_pos, split, high, shr-shr, shl-shr, shl_lt}
 use Rattle.rules.specs.Bits.{number, first_bits, field_at, bytes_for, filling, packed}
 use Rattle.bits.specs.Writing.{Bytes}
-use Rattle.bits.proofs.Bytes.{number_append, number_lt, number_bytes_of, length_bytes_of}
+use Rattle.bits.proofs.Bytes.{number_append, number_lt, number_bytes_of, length_bytes_of, bytes_of_bytes}
 
 -- ---- the first bits
 
@@ -75,6 +75,11 @@ filled n = omega (arith, bytes_for_ge n)
 pub length_packed : (n v : ℕ) → length (packed n v) ≡ bytes_for n
 unfolding packed
 length_packed n v = length_bytes_of (bytes_for n) (v * 2 ^ filling n)
+
+-- a value's stored form is a list of bytes
+pub packed_bytes : (n v : ℕ) → Bytes (packed n v)
+unfolding packed
+packed_bytes n v = bytes_of_bytes (bytes_for n) (v * 2 ^ filling n)
 
 pub number_packed : (n v : ℕ) → v < 2 ^ n → number (packed n v) ≡ v * 2 ^ filling n
 unfolding packed

@@ -1,14 +1,20 @@
 -- The entries of a table of fields, one by one and in two parts.
-use Prim.Native.Nat.{ℕ, zero, suc, ◌+◌, ◌*◌, ◌<◌}
+use Prim.Native.Nat.{ℕ, zero, suc, ◌+◌, ◌*◌, ◌≤◌, ◌<◌}
 use mathlib.Core.Path.{◌≡◌, refl, sym, ap, ap₂, ◌∙◌}
 use mathlib.Core.List.{List, [], ◌∷◌, ◌++◌, map, map-append}
-use native.Mathlib.Nat.{add-zero, mul-zero}
+use native.Mathlib.Nat.{add-zero, mul-zero, mul-le-mul_left}
 use native.Mathlib.Omega.{arith}
 use lib.ListN.{length, take, drop, set, get_or, length-map}
 use lib.Seq.{take_all}
 use Rattle.std.proofs.lemmas.List.{take_more_set}
 use Rattle.rules.specs.Lists.{overwritten}
 use Rattle.rules.specs.Bits.{field_at, table_at}
+
+-- there is room for one entry more
+pub next_room : (at w i n m : ℕ) → i < n → at + w * n ≤ m → at + w * i + w ≤ m
+next_room at w i n m h l =
+    let next : i + 1 ≤ n = omega arith in
+    omega (arith, mul-le-mul_left w next)
 
 pub length_table_at : (s : List ℕ) (p w n : ℕ) → length (table_at s p w n) ≡ n
 unfolding table_at

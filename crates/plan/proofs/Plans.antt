@@ -1,7 +1,7 @@
 -- A plan, refusal by refusal, and the answer that it leads to. Assumes nothing.
-use mathlib.Core.Path.{◌≡◌, sym, ap, subst, ◌∙◌}
+use mathlib.Core.Path.{◌≡◌, refl, sym, ap, subst, ◌∙◌}
 use mathlib.Core.Bool.{true, false}
-use Prim.Native.Nat.{ℕ, ◌≤◌, ◌<◌}
+use Prim.Native.Nat.{ℕ, zero, suc, ◌≤◌, ◌<◌}
 use native.Mathlib.Omega.{arith}
 use borrow.Author.Tests.{lt-ltb, le-ltb}
 use Rattle.rules.specs.declared.Counts.{Counts}
@@ -61,6 +61,16 @@ module _ (m : Mesh) (rounds : ℕ) where
 
 -- ---- its answer
 
+-- a refusal's answer has no counts but zeros
+pub same_answer : (n : ℕ) (c d : Counts) → (n ≡ 0 → c ≡ d) → counts_answer n c ≡ counts_answer n d
+same_answer zero c d h = ap (counts_answer 0) (h refl)
+same_answer (suc n) c d h = refl
+
+-- counts in range fit 32 bits
+pub range_narrow : (s : Sizes) → InRange (counts_in s) → Narrow s
+unfolding counts_in
+range_narrow s r = record { vertices = omega (arith, r.vertices); hexes = omega (arith, r.hexes); quads = omega (arith, r.quads); segments = omega (arith, r.segments); points = omega (arith, r.points) }
+
 module _ {m : Mesh} {rounds : ℕ} {p : Growth} (e : Sized m rounds p) where
   pub plan_passed : Passed m rounds
   plan_passed = rounds_pass m rounds e.passes
@@ -74,10 +84,7 @@ module _ {m : Mesh} {rounds : ℕ} {p : Growth} (e : Sized m rounds p) where
   plan_in_range = subst InRange (sym plan_counts) (in_range_lem _ plan_passed.small)
 
   pub plan_narrow : Narrow p.finished
-  unfolding counts_in
-  plan_narrow =
-      let r = plan_in_range in
-      record { vertices = omega (arith, r.vertices); hexes = omega (arith, r.hexes); quads = omega (arith, r.quads); segments = omega (arith, r.segments); points = omega (arith, r.points) }
+  plan_narrow = range_narrow p.finished plan_in_range
 
   pub plan_answer : (c : Counts) → c ≡ counts_in p.finished → counts_answer_of (Ok c) ≡ finished_answer m rounds
   unfolding finished_answer

@@ -12,6 +12,9 @@ ghost use Rattle.plan.specs.Planned.{Planned};
 use rules::{Counts, Refusal, Sizes};
 use tables::MeshTables;
 
+// The answer that a refusal's number leads to.
+pub mod answer;
+
 // The sizes before the rounds and after them.
 #[derive(Clone, Copy)]
 pub struct Growth {
