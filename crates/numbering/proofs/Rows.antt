@@ -66,6 +66,9 @@ unfolding concat
 flattened [] = refl
 flattened (row ∷ rows) = ap (λ (r : List ℕ). row ++ r) (flattened rows)
 
+pub rows_listed : (rows listed : List (List ℕ)) → rows ≡ listed → flat_map (λ row. row) rows ≡ concat listed
+rows_listed rows listed e = flattened rows ∙ ap concat e
+
 pub front_listed : (rows listed : List (List ℕ)) (old : List ℕ) → rows ≡ listed → take (length (concat listed)) (overwritten old (flat_map (λ row. row) rows)) ≡ concat listed
 unfolding overwritten
-front_listed rows listed old e = rw (flattened rows, e) (take_at (concat listed) (drop (length (concat listed)) old) (length (concat listed)) refl)
+front_listed rows listed old e = rw (rows_listed rows listed e) (take_at (concat listed) (drop (length (concat listed)) old) (length (concat listed)) refl)

@@ -88,13 +88,18 @@ impl Parts {
     // table of cells: what is done for each cell then reads them in a row. A cell by itself has its corners in order. No `ArrayVec`: a
     // table's rows are copied whole, and its calls that take a slice answer an `Err`, here a branch that none takes.
     pub fn listed(self) -> [u8; 24]
-        ensures { take (length (places_listed self)) result ≡ places_listed self }
+        ensures front { take (length (places_listed self)) result ≡ places_listed self }
+        ensures whole { result ≡ overwritten (replicate 24 0) (places_listed self) }
     {
         match self {
             Parts::HexEdges => at_front(HEX_EDGES.as_flattened()),
             Parts::HexFaces => at_front(HEX_FACES.as_flattened()),
             Parts::QuadEdges => at_front(QUAD_EDGES.as_flattened()),
-            _ => at_front(&[0, 1, 2, 3, 4, 5, 6, 7]),
+            Parts::Hexes => at_front(&[0, 1, 2, 3, 4, 5, 6, 7]),
+            Parts::Quads => at_front(&[0, 1, 2, 3]),
+            Parts::Segments => at_front(&[0, 1]),
+            Parts::Points => at_front(&[0]),
+            Parts::SegmentFaces => at_front(&[]),
         }
     }
 }
