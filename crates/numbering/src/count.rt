@@ -52,16 +52,15 @@ pub fn count_edges(w: &mut [u32], hexes: &[u32], quads: &[u32], segments: &[u32]
         + Parts::QuadEdges.count_all(quads)
         + Parts::Segments.count_all(segments);
     let room = prepare_for(w, 2, most)?;
-    let by_hexes = parts::meet_table::<2>(w, room, 0, Parts::HexEdges, hexes)?;
-    let by_quads = parts::meet_table::<2>(w, room, by_hexes, Parts::QuadEdges, quads)?;
-    parts::meet_table::<2>(w, room, by_quads, Parts::Segments, segments)
+    let by_hexes = parts::meet_table(w, room, 0, Parts::HexEdges, hexes)?;
+    let by_quads = parts::meet_table(w, room, by_hexes, Parts::QuadEdges, quads)?;
+    parts::meet_table(w, room, by_quads, Parts::Segments, segments)
 }
 
-// The parts of the cells of one table, of C corners each. With cells as parts: how many corner sets they have.
-pub fn count_table<const C: usize>(w: &mut [u32], of: Parts, cells: &[u32]) -> Option<usize>
-    requires { C ≡ part_corners of }
+// The parts of the cells of one table. With cells as parts: how many corner sets they have.
+pub fn count_table(w: &mut [u32], of: Parts, cells: &[u32]) -> Option<usize>
     ensures { CountOf (table_keys of cells.now) result }
 {
-    let room = prepare_for(w, C, of.count_all(cells))?;
-    parts::meet_table::<C>(w, room, 0, of, cells)
+    let room = prepare_for(w, of.part_corners(), of.count_all(cells))?;
+    parts::meet_table(w, room, 0, of, cells)
 }

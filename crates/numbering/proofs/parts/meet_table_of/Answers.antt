@@ -3,7 +3,7 @@ use Rattle.std.proofs.Common.{◌≡◌, length, sym, ap, ◌∙◌, arith}
 use Rattle.rules.specs.Lists.{concat_map, cut}
 use Rattle.numbering.specs.Parts.{cell_corners, table_keys, places_listed, listed_keys}
 use Rattle.numbering.proofs.Places.{few_parts, list_size, list_lent, count_listed, listed_within, table_listed}
-use Rattle.numbering.proofs.parts.meet_table.Goals as goal
+use Rattle.numbering.proofs.parts.meet_table_of.Goals as goal
 
 pub slice_bounds-meet_cells-end : goal.slice_bounds-meet_cells-end
 slice_bounds-meet_cells-end g c =
