@@ -137,7 +137,6 @@ fn part_count(places: usize, corners: usize) -> usize
 }
 
 // Meets the part of a cell whose corners stand at these places, in a table of n keys; `key` has room for the part's corners.
-#[inline(always)]
 fn meet_part(
     w: &mut [u32],
     room: usize,
@@ -158,9 +157,7 @@ fn meet_part(
 
 // Meets the parts of a cell in order, of as many corners each as `key` has room for, and writes the place of each, counted from `base`, to the
 // front of `numbers`; the answer is the count of keys, if there is room for them all. The places of their corners are listed. This is for a
-// caller that knows the count of corners only when it runs; `meet_parts_of` is the same with a constant. It is inlined there, so that no loop
-// over a key is left.
-#[inline(always)]
+// caller that knows the count of corners only when it runs.
 pub fn meet_parts(
     w: &mut [u32],
     room: usize,
@@ -180,7 +177,6 @@ pub fn meet_parts(
 {
     let c = key.len();
     let mut known = n;
-    // By their numbers: over `chunks_exact(c).enumerate()` splitting takes 3 % more instructions.
     for part in 0..part_count(places.len(), c) {
         let at = c * part;
         let met = meet_part(w, room, known, &places[at..at + c], cell, key)?;
@@ -190,8 +186,30 @@ pub fn meet_parts(
     Some(known)
 }
 
-// The same for parts of C corners each, with a key of its own. An array of C numbers is to have fewer than 2^63 bytes: this is asked here and
-// once below, since a table with no room for a key bounds no C, and a struct of that one fact is no plainer.
+// The same for a part of C corners, with a key of its own. An array of C numbers is to have fewer than 2^63 bytes: this is asked here and twice
+// below, since a table with no room for a key bounds no C, and a struct of that one fact is no plainer.
+fn meet_part_of<const C: usize>(
+    w: &mut [u32],
+    room: usize,
+    n: usize,
+    places: &[u8],
+    cell: &[u32],
+) -> Option<table::MetKey>
+    requires short { C < 2 ^ 61 }
+    requires table { Table C w.old room n }
+    requires places_len { length places.now ≡ C }
+    requires within { Within (length cell.now) places.now }
+    ensures { Answered C w.old w.new room n (key_at cell.now places.now) result }
+{
+    let mut key = [0u32; C];
+    load(places, cell, &mut key);
+    keys::sort(&mut key);
+    table::meet(w, room, n, &key)
+}
+
+// The same as `meet_parts` for parts of C corners each, which is what refining calls: a constant leaves no loop over a key. Each has a body of
+// its own: by a call of `meet_parts` that is inlined here, refining took 0.7 % more instructions on a grid of hexes, and by one of `meet_part`
+// 0.8 % more: the bar is 0.5 %.
 pub fn meet_parts_of<const C: usize>(
     w: &mut [u32],
     room: usize,
@@ -208,8 +226,15 @@ pub fn meet_parts_of<const C: usize>(
     requires parts_in_bounds { length places.now / C ≤ length numbers.old }
     ensures { Numbering C w.old w.new room n (listed_keys C places.now cell.now) base numbers.old numbers.new result }
 {
-    let mut key = [0u32; C];
-    meet_parts(w, room, n, places, cell, base, &mut key, numbers)
+    let mut known = n;
+    // By their numbers: over `chunks_exact(C).enumerate()` splitting takes 3 % more instructions.
+    for part in 0..part_count(places.len(), C) {
+        let at = C * part;
+        let met = meet_part_of::<C>(w, room, known, &places[at..at + C], cell)?;
+        numbers[part] = (base + met.number) as u32;
+        known = met.known;
+    }
+    Some(known)
 }
 
 // Meets the parts of all cells of a flat table of cells of `corners` corners, cell after cell. Their numbers are not asked for.
@@ -238,7 +263,7 @@ fn meet_cells<const C: usize>(
 
 // Meets these parts of all cells of a flat table, of C corners each: a constant, so that no loop over a key is left.
 #[tactic(auto, using(crate::proofs::Places::list_size, crate::proofs::Places::few_listed))]
-fn meet_table_of<const C: usize>(
+pub fn meet_table_of<const C: usize>(
     w: &mut [u32],
     room: usize,
     n: usize,
@@ -254,7 +279,7 @@ fn meet_table_of<const C: usize>(
     meet_cells::<C>(w, room, n, &places[..end], cells, parts.cell_corners())
 }
 
-// Meets these parts of all cells of a flat table. How many corners a part has is asked once for the table.
+// The same for a caller that knows the parts only when it runs: how many corners a part has is asked once for the table.
 pub fn meet_table(
     w: &mut [u32],
     room: usize,
