@@ -36,4 +36,4 @@ invariant_of-given-clause-faces_are c =
     lent _ _ 4 _ c.faces-faces.ensures (face_corners c.args.kind) c.count-faces_end.ensures _ c.listed-face_places.ensures.front
 
 pub invariant_of-given-clause-smallest_are : goal.invariant_of-given-clause-smallest_are
-invariant_of-given-clause-smallest_are c = rw (c.corner_count-corners.ensures, ← length_smallest c.args.kind) c.smallest_parts-smallest.ensures
+invariant_of-given-clause-smallest_are c = rw (c.corner_count-corners.ensures, ← length_smallest c.args.kind) c.smallest_parts-smallest.ensures.front
