@@ -8,7 +8,9 @@ ghost use Rattle.splitting.specs.Cells.{cells_in, edges_met, faces_met};
 ghost use Rattle.splitting.specs.Ready.{table_words};
 ghost use Rattle.splitting.specs.Words.{SameTables, NoneMet, Room, BothMet, CellNumbered, CellSplit, TableSplit};
 
-use crate::given::{Base, Setting};
+// Callers of the tables below find it beside them.
+pub use crate::given::Base;
+use crate::given::Setting;
 use crate::kinds::CellKind;
 use numbering::{parts, table};
 
