@@ -1,6 +1,6 @@
 -- Laws of the list f 0, f 1, .., f (n - 1), and of runs of numbers in a list. Assumes nothing.
 use mathlib.Core.Path.{◌≡◌, ap, ◌∙◌}
-use mathlib.Core.List.{List, [], ◌∷◌, ◌++◌, map, map-append}
+use mathlib.Core.List.{List, [], ◌∷◌, ◌++◌, map, map-map, map-append}
 use Prim.Native.Nat.{ℕ, zero, suc, ◌+◌, ◌≤◌, ◌<◌}
 use native.Mathlib.Nat.{add-zero, zero-add}
 use native.Mathlib.Omega.{arith}
@@ -40,6 +40,11 @@ module _ {A : Type 0} where
       let f : ℕ → A = λ i. get_or xs i d in
       ext_get_or d (firsts f (length xs)) xs (length_firsts f (length xs))
       (λ i l. get_or_firsts f (length xs) i d (omega (arith, length_firsts f (length xs))))
+
+module _ {A B : Type 0} where
+  -- a function of each of the first n
+  pub map_firsts : (g : A → B) (f : ℕ → A) (n : ℕ) → map g (firsts f n) ≡ firsts (λ (i : ℕ). g (f i)) n
+  map_firsts g f n = map-map g f (up_from 0 n)
 
 -- ---- a run of numbers
 

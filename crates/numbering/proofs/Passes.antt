@@ -2,12 +2,12 @@
 use mathlib.Core.Path.{◌≡◌, refl, sym, ap, ◌∙◌}
 use mathlib.Core.List.{List, [], ◌∷◌, ◌++◌, map, append_assoc, append-nil}
 use Prim.Native.Nat.{ℕ, suc, ◌+◌, ◌*◌, ◌/◌, ◌-◌, ◌≤◌, ◌<◌}
-use native.Mathlib.Nat.{div-lt_iff_lt-mul}
+use native.Mathlib.Nat.{div-lt_iff_lt-mul, mul-div-le, mul-le-mul_left}
 use Rattle.std.proofs.lemmas.Nat.{le-div}
 use native.Mathlib.Numerals.{add-one}
 use native.Mathlib.Omega.{arith}
 use lib.ListN.{length, get_or, set, take, drop, length-append, length-drop, length-map, take-append-drop}
-use lib.Seq.{split_at, take_all, take_at, drop_at, drop-drop, take-suc}
+use lib.Seq.{split_at, length-take-le, take_all, take_at, drop_at, drop-drop, take-suc}
 use Rattle.rules.specs.Lists.{concat_map, cut, up_from, Key, index_of, meet, meet_all, distinct}
 use Rattle.lists.specs.Membership.{In}
 use Rattle.lists.proofs.Membership.{get_or_map}
@@ -37,11 +37,20 @@ length_later known xs ys =
 
 -- ---- a cell of a flat table
 
+-- where entry i of k elements ends
+pub entry_end : (k i : ℕ) (xs : List ℕ) → i < length xs / k → k * i + k ≤ length xs
+entry_end k i xs l = omega (arith, mul-div-le (length xs) k, mul-le-mul_left k l)
+
 -- what is lent of the table
 pub entry_is : (k i : ℕ) (xs : List ℕ) → i < length xs / k → take (k * i + k - k * i) (drop (k * i) xs) ≡ get_or (cut k xs) i []
 entry_is k i xs l =
     let e : k * i + k - k * i ≡ k = omega arith in
     ap (λ (n : ℕ). take n (drop (k * i) xs)) e ∙ sym (cut_entry k i xs [] l)
+
+-- and how long that is
+pub entry_length : (k i : ℕ) (xs : List ℕ) → i < length xs / k → length (take (k * i + k - k * i) (drop (k * i) xs)) ≡ k
+entry_length k i xs l =
+    length-take-le (k * i + k - k * i) (drop (k * i) xs) (omega (arith, length-drop (k * i) xs, entry_end k i xs l)) ∙ omega arith
 
 -- cell x is lent, and `more` is left, of a table whose first i cells were lent before
 pub record Chunk (k i : ℕ) (xs x more : List ℕ) : Type 0 where

@@ -5,7 +5,8 @@ use mathlib.Core.List.{List, [], ◌∷◌, map}
 use Prim.Native.Nat.{ℕ, zero, suc, ◌*◌, ◌/◌, ◌%◌, ◌≤◌, ◌<◌}
 use native.Mathlib.Nat.{zero-add, not-suc-le-zero, one-le-pow, mul-div-le, mul-div_cancel_left, mul-le-mul_left}
 use native.Mathlib.Omega.{arith}
-use lib.ListN.{length, get_or, take, replicate, length-map}
+use lib.ListN.{length, get_or, take, drop, replicate, length-map}
+use lib.Seq.{take_at}
 use Rattle.rules.specs.Lists.{concat, concat_map, overwritten, up_from, cut}
 use Rattle.rules.specs.Mesh.{Kind, hex, quad, segment, point, corners, singles, whole, by_dimension, places, place_of}
 use Rattle.rules.specs.Split.{key_at}
@@ -120,17 +121,12 @@ few_listed Segments = omega arith
 few_listed SegmentFaces = omega arith
 few_listed Points = omega arith
 
--- a cell by itself has its corners in order
-pub itself_listed : (p : Parts) → (p ≡ HexEdges → ⊥) → (p ≡ HexFaces → ⊥) → (p ≡ QuadEdges → ⊥) → take (length (places_listed p)) (overwritten (replicate 24 0) (0 ∷ 1 ∷ 2 ∷ 3 ∷ 4 ∷ 5 ∷ 6 ∷ 7 ∷ [])) ≡ places_listed p
-unfolding places_listed places by_dimension singles whole up_from concat overwritten
-itself_listed HexEdges h i j = absurd (h refl)
-itself_listed HexFaces h i j = absurd (i refl)
-itself_listed QuadEdges h i j = absurd (j refl)
-itself_listed Hexes h i j = refl
-itself_listed Quads h i j = refl
-itself_listed Segments h i j = refl
-itself_listed SegmentFaces h i j = refl
-itself_listed Points h i j = refl
+-- what is at the front of an array that is the list and zeros behind it
+pub list_front : (parts : Parts) (array : List ℕ) → array ≡ overwritten (replicate 24 0) (places_listed parts) → take (length (places_listed parts)) array ≡ places_listed parts
+unfolding overwritten
+list_front parts array e =
+    let l = places_listed parts in
+    rw e (take_at l (drop (length l) (replicate 24 0)) (length l) refl)
 
 -- place i of the list, by its part and corner
 module _ (parts : Parts) (i : ℕ) (l : i < length (places_listed parts)) where

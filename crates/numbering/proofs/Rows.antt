@@ -1,7 +1,7 @@
 -- Rows of one length, listed one behind the other: what stands where, and what is read at their places. Assumes nothing.
 use mathlib.Core.Path.{◌≡◌, refl, sym, ap, ◌∙◌}
 use mathlib.Core.List.{List, [], ◌∷◌, ◌++◌, map-append}
-use Prim.Native.Nat.{ℕ, ◌+◌, ◌*◌, ◌/◌, ◌%◌, ◌-◌, ◌<◌}
+use Prim.Native.Nat.{ℕ, ◌+◌, ◌*◌, ◌/◌, ◌%◌, ◌-◌, ◌≤◌, ◌<◌}
 use native.Mathlib.Nat.{mod-lt, div-add-mod, div-lt_iff_lt-mul, mul-div_cancel_left}
 use native.Mathlib.Omega.{arith}
 use lib.ListN.{length, get_or, take, drop, length-map}
@@ -14,6 +14,7 @@ use Rattle.rules.specs.Split.{corners_at, key_at}
 use Rattle.lists.specs.Membership.{In}
 use Rattle.lists.proofs.Membership.{get_or_map}
 use Rattle.lists.proofs.Tables.{length_cut, length_concat, cut_concat, cut_at}
+use Rattle.memory.proofs.Stores.{Storing, store_end, sets_front}
 use Rattle.numbering.specs.Parts.{listed_keys}
 use Rattle.numbering.proofs.Passes.{entry_is}
 
@@ -30,6 +31,11 @@ module _ (c : ℕ) (rows : List (List ℕ)) (some : 0 < c) (each : (row : List �
       ap (λ (t : List (List ℕ)). get_or (get_or t (i / c) []) (i % c) 0) (sym e)
       ∙ cut_at c (i / c) (i % c) (concat rows) [] 0 (omega (arith, r.0, n)) r.1
       ∙ ap (λ (k : ℕ). get_or (concat rows) k 0) (div-add-mod i c)
+
+-- a list that a loop has stored from the front on stands at the front of the array
+pub at_front : {s d w : List ℕ} {i : ℕ} → Storing 0 s d w i → length s ≤ i → length s ≤ length d → take (length s) w ≡ s
+unfolding overwritten
+at_front {s} {d} p l h = ap (take (length s)) (store_end p l ∙ sets_front d s h) ∙ take_at s (drop (length s) d) (length s) refl
 
 -- ---- a row that is lent: c places from c * j on
 
@@ -66,6 +72,9 @@ unfolding concat
 flattened [] = refl
 flattened (row ∷ rows) = ap (λ (r : List ℕ). row ++ r) (flattened rows)
 
+pub rows_listed : (rows listed : List (List ℕ)) → rows ≡ listed → flat_map (λ row. row) rows ≡ concat listed
+rows_listed rows listed e = flattened rows ∙ ap concat e
+
 pub front_listed : (rows listed : List (List ℕ)) (old : List ℕ) → rows ≡ listed → take (length (concat listed)) (overwritten old (flat_map (λ row. row) rows)) ≡ concat listed
 unfolding overwritten
-front_listed rows listed old e = rw (flattened rows, e) (take_at (concat listed) (drop (length (concat listed)) old) (length (concat listed)) refl)
+front_listed rows listed old e = rw (rows_listed rows listed e) (take_at (concat listed) (drop (length (concat listed)) old) (length (concat listed)) refl)

@@ -1,5 +1,5 @@
 -- Words of inner contracts: what counting distinct keys answers.
-use Rattle.std.specs.Prelude.{◌≡◌, List, ◌++◌, ℕ, ◌+◌, ◌-◌, ◌/◌, ◌^◌, min, length, Option, Some, None}
+use Rattle.std.specs.Prelude.{◌≡◌, List, ◌++◌, ℕ, ◌-◌, ◌/◌, ◌^◌, min, length, Option, Some, None}
 use Rattle.rules.specs.Lists.{Key, distinct}
 use Rattle.numbering.specs.declared.parts.Parts.TheVariants.{HexEdges, HexFaces, QuadEdges, Quads, Segments}
 use Rattle.numbering.specs.Parts.{table_keys}

@@ -52,16 +52,29 @@ pub fn count_edges(w: &mut [u32], hexes: &[u32], quads: &[u32], segments: &[u32]
         + Parts::QuadEdges.count_all(quads)
         + Parts::Segments.count_all(segments);
     let room = prepare_for(w, 2, most)?;
-    let by_hexes = parts::meet_table::<2>(w, room, 0, Parts::HexEdges, hexes)?;
-    let by_quads = parts::meet_table::<2>(w, room, by_hexes, Parts::QuadEdges, quads)?;
-    parts::meet_table::<2>(w, room, by_quads, Parts::Segments, segments)
+    let by_hexes = parts::meet_table_of::<2>(w, room, 0, Parts::HexEdges, hexes)?;
+    let by_quads = parts::meet_table_of::<2>(w, room, by_hexes, Parts::QuadEdges, quads)?;
+    parts::meet_table_of::<2>(w, room, by_quads, Parts::Segments, segments)
 }
 
-// The parts of the cells of one table, of C corners each. With cells as parts: how many corner sets they have.
-pub fn count_table<const C: usize>(w: &mut [u32], of: Parts, cells: &[u32]) -> Option<usize>
+// The parts of the cells of one table, of C corners each: a constant, so that no loop over a key is left.
+fn count_table_of<const C: usize>(w: &mut [u32], of: Parts, cells: &[u32]) -> Option<usize>
     requires { C ≡ part_corners of }
     ensures { CountOf (table_keys of cells.now) result }
 {
     let room = prepare_for(w, C, of.count_all(cells))?;
-    parts::meet_table::<C>(w, room, 0, of, cells)
+    parts::meet_table_of::<C>(w, room, 0, of, cells)
+}
+
+// The parts of the cells of one table. With cells as parts: how many corner sets they have. How many corners a part has is asked once for the
+// table.
+pub fn count_table(w: &mut [u32], of: Parts, cells: &[u32]) -> Option<usize>
+    ensures { CountOf (table_keys of cells.now) result }
+{
+    match of.part_corners() {
+        1 => count_table_of::<1>(w, of, cells),
+        2 => count_table_of::<2>(w, of, cells),
+        4 => count_table_of::<4>(w, of, cells),
+        _ => count_table_of::<8>(w, of, cells),
+    }
 }

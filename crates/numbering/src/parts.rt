@@ -60,6 +60,18 @@ impl Parts {
         }
     }
 
+    // How many corners each of them has.
+    pub fn part_corners(self) -> usize
+        ensures { result ≡ part_corners self }
+    {
+        match self {
+            Parts::Points => 1,
+            Parts::HexEdges | Parts::QuadEdges | Parts::Segments => 2,
+            Parts::HexFaces | Parts::Quads | Parts::SegmentFaces => 4,
+            Parts::Hexes => 8,
+        }
+    }
+
     // How many the cells of a flat table have, each counted as often as it is met.
     #[tactic(auto, using(crate::proofs::Places::length_table_keys))]
     pub fn count_all(self, cells: &[u32]) -> usize
@@ -88,13 +100,18 @@ impl Parts {
     // table of cells: what is done for each cell then reads them in a row. A cell by itself has its corners in order. No `ArrayVec`: a
     // table's rows are copied whole, and its calls that take a slice answer an `Err`, here a branch that none takes.
     pub fn listed(self) -> [u8; 24]
-        ensures { take (length (places_listed self)) result ≡ places_listed self }
+        ensures front { take (length (places_listed self)) result ≡ places_listed self }
+        ensures whole { result ≡ overwritten (replicate 24 0) (places_listed self) }
     {
         match self {
             Parts::HexEdges => at_front(HEX_EDGES.as_flattened()),
             Parts::HexFaces => at_front(HEX_FACES.as_flattened()),
             Parts::QuadEdges => at_front(QUAD_EDGES.as_flattened()),
-            _ => at_front(&[0, 1, 2, 3, 4, 5, 6, 7]),
+            Parts::Hexes => at_front(&[0, 1, 2, 3, 4, 5, 6, 7]),
+            Parts::Quads => at_front(&[0, 1, 2, 3]),
+            Parts::Segments => at_front(&[0, 1]),
+            Parts::Points => at_front(&[0]),
+            Parts::SegmentFaces => at_front(&[]),
         }
     }
 }
@@ -119,9 +136,59 @@ fn part_count(places: usize, corners: usize) -> usize
     places.checked_div(corners).unwrap_or(0)
 }
 
-// Meets the part of a cell whose C corners stand at these places, in a table of n keys. An array of C numbers is to have fewer than 2^63 bytes:
-// this is asked here and twice below, since a table with no room for a key bounds no C, and a struct of that one fact is no plainer.
-fn meet_part<const C: usize>(
+// Meets the part of a cell whose corners stand at these places, in a table of n keys; `key` has room for the part's corners.
+fn meet_part(
+    w: &mut [u32],
+    room: usize,
+    n: usize,
+    places: &[u8],
+    cell: &[u32],
+    key: &mut [u32],
+) -> Option<table::MetKey>
+    requires table { Table (length key.old) w.old room n }
+    requires key_len { length key.old ≡ length places.now }
+    requires within { Within (length cell.now) places.now }
+    ensures { Answered (length key.old) w.old w.new room n (key_at cell.now places.now) result }
+{
+    load(places, cell, key);
+    keys::sort(key);
+    table::meet(w, room, n, key)
+}
+
+// Meets the parts of a cell in order, of as many corners each as `key` has room for, and writes the place of each, counted from `base`, to the
+// front of `numbers`; the answer is the count of keys, if there is room for them all. The places of their corners are listed. This is for a
+// caller that knows the count of corners only when it runs.
+pub fn meet_parts(
+    w: &mut [u32],
+    room: usize,
+    n: usize,
+    places: &[u8],
+    cell: &[u32],
+    base: usize,
+    key: &mut [u32],
+    numbers: &mut [u32],
+) -> Option<usize>
+    requires table { Table (length key.old) w.old room n }
+    requires within { Within (length cell.now) places.now }
+    requires room_bound { base + room ≤ 2 ^ 32 }
+    requires parts_in_bounds { length places.now / length key.old ≤ length numbers.old }
+    ensures { Numbering (length key.old) w.old w.new room n
+        (listed_keys (length key.old) places.now cell.now) base numbers.old numbers.new result }
+{
+    let c = key.len();
+    let mut known = n;
+    for part in 0..part_count(places.len(), c) {
+        let at = c * part;
+        let met = meet_part(w, room, known, &places[at..at + c], cell, key)?;
+        numbers[part] = (base + met.number) as u32;
+        known = met.known;
+    }
+    Some(known)
+}
+
+// The same for a part of C corners, with a key of its own. An array of C numbers is to have fewer than 2^63 bytes: this is asked here and twice
+// below, since a table with no room for a key bounds no C, and a struct of that one fact is no plainer.
+fn meet_part_of<const C: usize>(
     w: &mut [u32],
     room: usize,
     n: usize,
@@ -140,9 +207,10 @@ fn meet_part<const C: usize>(
     table::meet(w, room, n, &key)
 }
 
-// Meets the parts of a cell in order, of C corners each, and writes the place of each, counted from `base`, to the front of `numbers`; the
-// answer is the count of keys, if there is room for them all. The places of their corners are listed.
-pub fn meet_parts<const C: usize>(
+// The same as `meet_parts` for parts of C corners each, which is what refining calls: a constant leaves no loop over a key. Each has a body of
+// its own: by a call of `meet_parts` that is inlined here, refining took 0.7 % more instructions on a grid of hexes, and by one of `meet_part`
+// 0.8 % more: the bar is 0.5 %.
+pub fn meet_parts_of<const C: usize>(
     w: &mut [u32],
     room: usize,
     n: usize,
@@ -162,7 +230,7 @@ pub fn meet_parts<const C: usize>(
     // By their numbers: over `chunks_exact(C).enumerate()` splitting takes 3 % more instructions.
     for part in 0..part_count(places.len(), C) {
         let at = C * part;
-        let met = meet_part::<C>(w, room, known, &places[at..at + C], cell)?;
+        let met = meet_part_of::<C>(w, room, known, &places[at..at + C], cell)?;
         numbers[part] = (base + met.number) as u32;
         known = met.known;
     }
@@ -188,14 +256,14 @@ fn meet_cells<const C: usize>(
     let mut numbers = [0u32; 12];
     let mut known = n;
     for cell in cells.chunks_exact(corners) {
-        known = meet_parts::<C>(w, room, known, places, cell, 0, &mut numbers)?;
+        known = meet_parts_of::<C>(w, room, known, places, cell, 0, &mut numbers)?;
     }
     Some(known)
 }
 
-// Meets these parts of all cells of a flat table, of C corners each.
+// Meets these parts of all cells of a flat table, of C corners each: a constant, so that no loop over a key is left.
 #[tactic(auto, using(crate::proofs::Places::list_size, crate::proofs::Places::few_listed))]
-pub fn meet_table<const C: usize>(
+pub fn meet_table_of<const C: usize>(
     w: &mut [u32],
     room: usize,
     n: usize,
@@ -209,4 +277,23 @@ pub fn meet_table<const C: usize>(
     let places = parts.listed();
     let end = C * parts.count();
     meet_cells::<C>(w, room, n, &places[..end], cells, parts.cell_corners())
+}
+
+// The same for a caller that knows the parts only when it runs: how many corners a part has is asked once for the table.
+pub fn meet_table(
+    w: &mut [u32],
+    room: usize,
+    n: usize,
+    parts: Parts,
+    cells: &[u32],
+) -> Option<usize>
+    requires { Table (part_corners parts) w.old room n }
+    ensures { Tallied (part_corners parts) w.old w.new room n (table_keys parts cells.now) result }
+{
+    match parts.part_corners() {
+        1 => meet_table_of::<1>(w, room, n, parts, cells),
+        2 => meet_table_of::<2>(w, room, n, parts, cells),
+        4 => meet_table_of::<4>(w, room, n, parts, cells),
+        _ => meet_table_of::<8>(w, room, n, parts, cells),
+    }
 }

@@ -8,7 +8,9 @@ ghost use Rattle.splitting.specs.Cells.{cells_in, edges_met, faces_met};
 ghost use Rattle.splitting.specs.Ready.{table_words};
 ghost use Rattle.splitting.specs.Words.{SameTables, NoneMet, Room, BothMet, CellNumbered, CellSplit, TableSplit};
 
-use crate::given::{Base, Setting};
+// Callers of the tables below find it beside them.
+pub use crate::given::Base;
+use crate::given::Setting;
 use crate::kinds::CellKind;
 use numbering::{parts, table};
 
@@ -27,8 +29,8 @@ pub struct PartTables<'a> {
     pub known: Known,
 }
 
-// Meets the parts of a cell, of C corners each, in a table that has room for them all. The parameters are those of `meet_parts`: the words, the
-// room and the count stand side by side, as in numbering.
+// Meets the parts of a cell, of C corners each, in a table that has room for them all. The parameters are those of `meet_parts_of`: the
+// words, the room and the count stand side by side, as in numbering.
 fn number_parts<const C: usize>(
     w: &mut [u32],
     room: usize,
@@ -46,7 +48,7 @@ fn number_parts<const C: usize>(
     requires parts_in_bounds { length places.now / C ≤ length numbers.old }
     ensures { Numbered C w.old w.new room n (listed_keys C places.now cell.now) base numbers.old numbers.new result }
 {
-    parts::meet_parts::<C>(w, room, n, places, cell, base, numbers).unwrap_or(n)
+    parts::meet_parts_of::<C>(w, room, n, places, cell, base, numbers).unwrap_or(n)
 }
 
 // `room`, `own_bound` and `children_in_bounds` are asked for on each level, each time of other cells: of one, of those of a table.

@@ -12,7 +12,7 @@ returns c =
     let h = c.in_ok-by_hexes.ensures in
     let q = c.in_ok-by_quads.ensures in
     let x = c.args in
-    let r = c.meet_table-3 in
+    let r = c.meet_table_of-3 in
     let last = table_keys Segments x.segments.now in
     subst (λ (ks : List Key). CountOf ks r.result) (append_assoc (table_keys HexEdges x.hexes.now) (table_keys QuadEdges x.quads.now) last)
     (counted (met_append h q) _ last r.result r.ensures)

@@ -19,21 +19,21 @@ pub slice_bounds-given-end : goal.slice_bounds-given-end
 slice_bounds-given-end c =
     let k = c.args.kind in
     size _ _ 2 _ c.edges-edges.ensures (edge_corners k) c.count-edges_end.ensures
-    ∙ sym (ap length (lent _ _ 2 _ c.edges-edges.ensures (edge_corners k) c.count-edges_end.ensures _ c.listed-edge_places.ensures))
+    ∙ sym (ap length (lent _ _ 2 _ c.edges-edges.ensures (edge_corners k) c.count-edges_end.ensures _ c.listed-edge_places.ensures.front))
 
 pub slice_bounds-given-end-2 : goal.slice_bounds-given-end-2
 slice_bounds-given-end-2 c =
     let k = c.args.kind in
     size _ _ 4 _ c.faces-faces.ensures (face_corners k) c.count-faces_end.ensures
-    ∙ sym (ap length (lent _ _ 4 _ c.faces-faces.ensures (face_corners k) c.count-faces_end.ensures _ c.listed-face_places.ensures))
+    ∙ sym (ap length (lent _ _ 4 _ c.faces-faces.ensures (face_corners k) c.count-faces_end.ensures _ c.listed-face_places.ensures.front))
 
 pub invariant_of-given-clause-edges_are : goal.invariant_of-given-clause-edges_are
 invariant_of-given-clause-edges_are c =
-    lent _ _ 2 _ c.edges-edges.ensures (edge_corners c.args.kind) c.count-edges_end.ensures _ c.listed-edge_places.ensures
+    lent _ _ 2 _ c.edges-edges.ensures (edge_corners c.args.kind) c.count-edges_end.ensures _ c.listed-edge_places.ensures.front
 
 pub invariant_of-given-clause-faces_are : goal.invariant_of-given-clause-faces_are
 invariant_of-given-clause-faces_are c =
-    lent _ _ 4 _ c.faces-faces.ensures (face_corners c.args.kind) c.count-faces_end.ensures _ c.listed-face_places.ensures
+    lent _ _ 4 _ c.faces-faces.ensures (face_corners c.args.kind) c.count-faces_end.ensures _ c.listed-face_places.ensures.front
 
 pub invariant_of-given-clause-smallest_are : goal.invariant_of-given-clause-smallest_are
-invariant_of-given-clause-smallest_are c = rw (c.corner_count-corners.ensures, ← length_smallest c.args.kind) c.smallest_parts-smallest.ensures
+invariant_of-given-clause-smallest_are c = rw (c.corner_count-corners.ensures, ← length_smallest c.args.kind) c.smallest_parts-smallest.ensures.front
