@@ -28,12 +28,13 @@ pub fn has_repeat(cell: &[u32]) -> bool
     (0..cell.len()).any(|i| has_number(cell[i], &cell[i + 1..]))
 }
 
-// Whether a cell of a table, of C corners each, names a corner twice.
-pub fn any_repeat<const C: usize>(table: &[u32]) -> bool
-    requires { 0 < C }
-    ensures { result ≡ any (repeats eqb) (cut C table.now) }
+// Whether a cell of a table, of k corners each, names a corner twice.
+#[inline(always)]
+pub fn any_repeat(k: usize, table: &[u32]) -> bool
+    requires { 0 < k }
+    ensures { result ≡ any (repeats eqb) (cut k table.now) }
 {
-    table.chunks_exact(C).any(has_repeat)
+    table.chunks_exact(k).any(has_repeat)
 }
 
 // The corners of cell i of a table, of C corners each.
@@ -53,8 +54,8 @@ pub fn read<const C: usize>(table: &[u32], i: usize) -> [u32; C]
 pub fn has_repeated_corner(mesh: MeshTables) -> bool
     ensures { result ≡ repeated_corner (topology (mesh_in mesh.entry)) }
 {
-    any_repeat::<8>(mesh.hexes)
-        || any_repeat::<4>(mesh.quads)
-        || any_repeat::<2>(mesh.segments)
-        || any_repeat::<1>(mesh.points)
+    any_repeat(8, mesh.hexes)
+        || any_repeat(4, mesh.quads)
+        || any_repeat(2, mesh.segments)
+        || any_repeat(1, mesh.points)
 }
