@@ -16,13 +16,18 @@ module _ {A : Type 0} where
   rest_part n xs = take_all (length xs - n) (drop n xs) (le_of_eq (length-drop n xs))
 
   -- entry number c lies within its table
+  pub place_within : (k c : ℕ) (xs : List A) → c < length xs / k → k * c + k ≤ length xs
+  place_within k c xs h = omega (arith, mul-le-mul_left k h, mul-div-le (length xs) k)
+
+  pub place_part : (k c : ℕ) (xs : List A) → c < length xs / k → take (k * c + k - k * c) (drop (k * c) xs) ≡ get_or (cut k xs) c []
+  place_part k c xs h = rw (add-sub_cancel_left (k * c) k) (sym (cut_entry k c xs [] h))
+
+  -- the same where c is below the count of the table's entries
   pub entry_within : (k c : ℕ) (xs : List A) → c < length (cut k xs) → k * c + k ≤ length xs
-  entry_within k c xs h =
-      let l : c < length xs / k = rw (length_cut k xs) at h in
-      omega (arith, mul-le-mul_left k l, mul-div-le (length xs) k)
+  entry_within k c xs h = place_within k c xs (rw (length_cut k xs) at h)
 
   pub entry_part : (k c : ℕ) (xs : List A) → c < length (cut k xs) → take (k * c + k - k * c) (drop (k * c) xs) ≡ get_or (cut k xs) c []
-  entry_part k c xs h = rw (add-sub_cancel_left (k * c) k) (sym (cut_entry k c xs [] (rw (length_cut k xs) at h)))
+  entry_part k c xs h = place_part k c xs (rw (length_cut k xs) at h)
 
 -- what is in the front of a list is in the list
 pub take_in : (xs : List (List ℕ)) (i : ℕ) (x : List ℕ) → In x (take i xs) → In x xs

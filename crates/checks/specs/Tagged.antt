@@ -39,6 +39,11 @@ TagMet c w w' room n k t (Ok count) = Agreed c w w' room n count k t
 TagMet c w w' room n k t (Err Differs) = Differed c w room n k t
 TagMet c w w' room n k t (Err Full) = Unit {0}
 
+-- how many keys there are then, of the n before
+abbrev pub known_then : ℕ → Result ℕ Stopped → ℕ
+known_then n (Ok count) = count
+known_then n (Err e) = n
+
 -- with how many keys there are then
 abbrev pub counted : Result (Unit {0}) Stopped → ℕ → Result ℕ Stopped
 counted (Ok u) n = Ok n

@@ -13,15 +13,16 @@ use crate::tagged::Stopped;
 use crate::{classes, pairwise};
 use rules::Refusal;
 
-// Whether two cells of a table have one corner set; a cell has C corners.
-pub fn has_duplicate<const C: usize>(words: &mut [u32], cells: &[u32]) -> bool
-    requires few { (0 < C) × (C ≤ 8) }
-    requires no_repeated_corner { any (repeats eqb) (cut C cells.now) ≡ false }
-    ensures { result ≡ repeats same (map key_of (cut C cells.now)) }
+// Whether two cells of a table have one corner set; a cell has k corners.
+#[inline(always)]
+pub fn has_duplicate(words: &mut [u32], k: usize, cells: &[u32]) -> bool
+    requires few { (0 < k) × (k ≤ 8) }
+    requires no_repeated_corner { any (repeats eqb) (cut k cells.now) ≡ false }
+    ensures { result ≡ repeats same (map key_of (cut k cells.now)) }
 {
-    match classes::find::<C>(words, Walk::Cells(cells), 2) {
-        Ok(n) => n != cells.len() / C,
-        Err(_) => pairwise::has_duplicate::<C>(cells),
+    match classes::find(words, Walk::Cells(cells), k, 2) {
+        Ok(n) => n != cells.len() / k,
+        Err(_) => pairwise::has_duplicate(k, cells),
     }
 }
 
@@ -39,7 +40,7 @@ fn check_faces_pairwise(mesh: PlainMesh) -> Result<usize, Refusal>
 pub fn check_faces(words: &mut [u32], mesh: PlainMesh) -> Result<usize, Refusal>
     ensures { FacesChecked (mesh_in mesh.entry.tables) result }
 {
-    match classes::find::<4>(words, Walk::Faces(mesh.tables), 1) {
+    match classes::find(words, Walk::Faces(mesh.tables), 4, 1) {
         Ok(n) => Ok(n),
         Err(Stopped::Differs) => Err(Refusal::MismatchedFace),
         Err(Stopped::Full) => check_faces_pairwise(mesh),
@@ -50,7 +51,7 @@ pub fn check_faces(words: &mut [u32], mesh: PlainMesh) -> Result<usize, Refusal>
 pub fn edge_count(words: &mut [u32], mesh: PlainMesh) -> usize
     ensures { result ≡ parts_counted Part.Edge mesh.entry.tables }
 {
-    match classes::find::<2>(words, Walk::Edges(mesh.tables), 2) {
+    match classes::find(words, Walk::Edges(mesh.tables), 2, 2) {
         Ok(n) => n,
         Err(_) => pairwise::count_distinct(Part::Edge, mesh),
     }

@@ -1,5 +1,5 @@
 // Check 5, which looks at each cell by itself.
-ghost use Rattle.std.specs.Prelude.{◌≡◌, false, [], ◌<◌, eqb, length, get_or};
+ghost use Rattle.std.specs.Prelude.{◌≡◌, false, [], ◌<◌, ◌/◌, eqb, length, get_or};
 ghost use Rattle.rules.specs.Lists.{any, repeats, cut, has};
 ghost use Rattle.rules.specs.Mesh.{topology};
 ghost use Rattle.rules.specs.Refusals.{repeated_corner};
@@ -28,12 +28,23 @@ pub fn has_repeat(cell: &[u32]) -> bool
     (0..cell.len()).any(|i| has_number(cell[i], &cell[i + 1..]))
 }
 
-// Whether a cell of a table, of C corners each, names a corner twice.
-pub fn any_repeat<const C: usize>(table: &[u32]) -> bool
-    requires { 0 < C }
-    ensures { result ≡ any (repeats eqb) (cut C table.now) }
+// Whether cell c of a table, of k corners each, names a corner twice.
+#[tactic(auto, using(crate::proofs::Slices::place_within, crate::proofs::Slices::place_part))]
+fn has_repeat_at(k: usize, table: &[u32], c: usize) -> bool
+    requires { c < length table.now / k }
+    ensures { result ≡ repeats eqb (get_or (cut k table.now) c []) }
 {
-    table.chunks_exact(C).any(has_repeat)
+    let at = k * c;
+    has_repeat(&table[at..at + k])
+}
+
+// Whether a cell of a table, of k corners each, names a corner twice.
+#[inline(always)]
+pub fn any_repeat(k: usize, table: &[u32]) -> bool
+    requires { 0 < k }
+    ensures { result ≡ any (repeats eqb) (cut k table.now) }
+{
+    (0..table.len() / k).any(|c| has_repeat_at(k, table, c))
 }
 
 // The corners of cell i of a table, of C corners each.
@@ -53,8 +64,8 @@ pub fn read<const C: usize>(table: &[u32], i: usize) -> [u32; C]
 pub fn has_repeated_corner(mesh: MeshTables) -> bool
     ensures { result ≡ repeated_corner (topology (mesh_in mesh.entry)) }
 {
-    any_repeat::<8>(mesh.hexes)
-        || any_repeat::<4>(mesh.quads)
-        || any_repeat::<2>(mesh.segments)
-        || any_repeat::<1>(mesh.points)
+    any_repeat(8, mesh.hexes)
+        || any_repeat(4, mesh.quads)
+        || any_repeat(2, mesh.segments)
+        || any_repeat(1, mesh.points)
 }

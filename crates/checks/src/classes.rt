@@ -153,7 +153,7 @@ impl<'a, const C: usize> Walked<'a, C> {
 
 // Goes over all of them, of C corners each, in `fewest` classes or more, up to 1024, until each class fits the memory. A class that does not
 // fit is given up before its end: that costs less than one class too many.
-pub fn find<const C: usize>(w: &mut [u32], of: Walk, fewest: usize) -> Result<usize, Stopped>
+fn find_of<const C: usize>(w: &mut [u32], of: Walk, fewest: usize) -> Result<usize, Stopped>
     requires size { Size of C }
     requires fewest_nonzero { 0 < fewest }
     ensures { Found of.entry (walked of.entry C) result }
@@ -171,4 +171,24 @@ pub fn find<const C: usize>(w: &mut [u32], of: Walk, fewest: usize) -> Result<us
         }
     }
     Err(Stopped::Full)
+}
+
+// The same where the count of corners, k, is a number: each count has a search of its own, since the compiler leaves no loop over a key where
+// it knows the count.
+#[inline(always)]
+pub fn find(w: &mut [u32], of: Walk, k: usize, fewest: usize) -> Result<usize, Stopped>
+    requires size { Size of k }
+    requires fewest_nonzero { 0 < fewest }
+    ensures { Found of.entry (walked of.entry k) result }
+{
+    match k {
+        1 => find_of::<1>(w, of, fewest),
+        2 => find_of::<2>(w, of, fewest),
+        3 => find_of::<3>(w, of, fewest),
+        4 => find_of::<4>(w, of, fewest),
+        5 => find_of::<5>(w, of, fewest),
+        6 => find_of::<6>(w, of, fewest),
+        7 => find_of::<7>(w, of, fewest),
+        _ => find_of::<8>(w, of, fewest),
+    }
 }

@@ -54,9 +54,9 @@ fn has_duplicate<const C: usize>(words: &mut [u32], of: Parts, cells: &[u32]) ->
     requires no_repeated_corner { any (repeats eqb) (cut C cells.now) ≡ false }
     ensures { result ≡ repeats same (map key_of (cut C cells.now)) }
 {
-    match count::count_table::<C>(words, of, cells) {
+    match count::count_table(words, of, cells) {
         Some(n) => n != cells.len() / C,
-        None => by_classes::has_duplicate::<C>(words, cells),
+        None => by_classes::has_duplicate(words, C, cells),
     }
 }
 
@@ -107,7 +107,9 @@ pub fn is_little(words: usize, corners: usize) -> bool
     words < OWN_NUMBERS && words / 6 <= corners
 }
 
-// 5 to 8 in order. Where little is lent, an array of its own serves instead.
+// 5 to 8 in order. Where little is lent, an array of its own serves instead. It is not inlined: with `edge_count` in one caller, the arrays of
+// both would lie on the stack at once.
+#[inline(never)]
 fn check_cells(words: &mut [u32], mesh: MeshTables) -> Result<usize, Refusal>
     requires { table_checks (mesh_in mesh) 0 ≡ 0 }
     ensures { MeshChecked (mesh_in mesh.entry) result }
@@ -144,7 +146,8 @@ fn edge_count_with(words: &mut [u32], mesh: PlainMesh) -> usize
 }
 
 // How many edges there are; an array of its own serves as above. Segments by themselves are edges, each its own: no two have one corner
-// set.
+// set. It is not inlined, as `check_cells` is not.
+#[inline(never)]
 fn edge_count(words: &mut [u32], mesh: PlainMesh) -> usize
     requires { duplicate_cell (topology (mesh_in mesh.tables)) ≡ false }
     ensures { result ≡ parts_counted Part.Edge mesh.entry.tables }

@@ -19,19 +19,20 @@ pub fn is_within(a: &[u32], b: &[u32]) -> bool
     a.iter().all(|corner| cells::has_number(*corner, b))
 }
 
-// Whether two cells of a table, of C corners each, have one corner set.
-pub fn has_duplicate<const C: usize>(table: &[u32]) -> bool
-    requires k_nonzero { 0 < C }
-    requires no_repeated_corner { any (repeats eqb) (cut C table.now) ≡ false }
-    ensures { result ≡ repeats same (map key_of (cut C table.now)) }
+// Whether two cells of a table, of k corners each, have one corner set.
+#[inline(always)]
+pub fn has_duplicate(k: usize, table: &[u32]) -> bool
+    requires k_nonzero { 0 < k }
+    requires no_repeated_corner { any (repeats eqb) (cut k table.now) ≡ false }
+    ensures { result ≡ repeats same (map key_of (cut k table.now)) }
 {
-    (0..table.len() / C).any(
+    (0..table.len() / k).any(
         |c| -> bool
-            requires { (0 < C) × (c < length table.now / C) }
-            ensures { let cells = cut C table.entry.now in result ≡ any (within (get_or cells c [])) (drop (c + 1) cells) }
+            requires { (0 < k) × (c < length table.now / k) }
+            ensures { let cells = cut k table.entry.now in result ≡ any (within (get_or cells c [])) (drop (c + 1) cells) }
         {
-            let (cell, behind) = table[C * c..].split_at(C);
-            behind.chunks_exact(C).any(|other| is_within(cell, other))
+            let (cell, behind) = table[k * c..].split_at(k);
+            behind.chunks_exact(k).any(|other| is_within(cell, other))
         },
     )
 }

@@ -1,13 +1,16 @@
--- The entries of the table, one after the other.
-use Rattle.std.proofs.Common.{eqb, rules, tests, ◌∙◌}
-use Rattle.std.proofs.lemmas.Iterator.Search.{any_from_yields_List}
-use Rattle.rules.specs.Lists.{repeats, cut}
-use Rattle.checks.proofs.Library.{any-list_any, YieldsList-from_cut}
+-- Each cell by its number.
+use Rattle.std.proofs.Common.{ℕ, ◌/◌, [], eqb, refl, ◌∙◌, ap, sym, get_or, length, rules, tests}
+use Rattle.rules.specs.Lists.{any, repeats, cut, up_from}
+use Rattle.lists.proofs.Tables.{length_cut}
+use Rattle.checks.proofs.Library.{any_range, any_places}
 use Rattle.checks.proofs.cells.any_repeat.Goals as goal
 
 pub returns : goal.returns
-returns g c =
-    let k = g.row.C in
+returns c =
+    let k = c.args.k in
     let table = c.args.table.now in
-    any_from_yields_List (repeats eqb) _ _ _ c.any.ensures.ran (YieldsList-from_cut k table c.requires c.chunks_exact.ensures.size c.chunks_exact.ensures.rest) (λ x b q k. search (rules, tests))
-    ∙ any-list_any (repeats eqb) (cut k table)
+    let cells = cut k table in
+    let test = λ (i : ℕ). repeats eqb (get_or cells i []) in
+    any_range test (length table / k) _ _ _ c.any.ensures.ran refl (λ x b q k. search (rules, tests))
+    ∙ ap (λ (n : ℕ). any test (up_from 0 n)) (sym (length_cut k table))
+    ∙ any_places (repeats eqb) cells []

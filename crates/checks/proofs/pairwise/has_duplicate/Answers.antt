@@ -7,8 +7,8 @@ use Rattle.checks.proofs.CornerSets.{duplicates_within}
 use Rattle.checks.proofs.pairwise.has_duplicate.Goals as goal
 
 pub returns : goal.returns
-returns g c =
-    let k = g.row.C in
+returns c =
+    let k = c.args.k in
     let table = c.args.table.now in
     let cells = cut k table in
     let test = λ (i : ℕ). any (within (get_or cells i [])) (drop (i + 1) cells) in

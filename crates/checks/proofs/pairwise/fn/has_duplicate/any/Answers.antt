@@ -10,8 +10,8 @@ use Rattle.checks.proofs.Slices.{rest_part}
 use Rattle.checks.proofs.pairwise.fn.has_duplicate.any.Goals as goal
 
 pub returns : goal.returns
-returns g c =
-    let k = g.row.C in
+returns c =
+    let k = c.captures.k in
     let i = c.args.c in
     let table = c.captures.table.now in
     let cell = c.split_at.result.0.now in

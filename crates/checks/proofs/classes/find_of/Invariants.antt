@@ -1,5 +1,5 @@
 use Rattle.std.proofs.Common.{◌-◌, ◌<◌}
-use Rattle.checks.proofs.classes.find.Given as goal
+use Rattle.checks.proofs.classes.find_of.Given as goal
 
 abbrev pub invariant-loop-classes : goal.invariant-loop-classes
 invariant-loop-classes g l = 0 < l.classes
