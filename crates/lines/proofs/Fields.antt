@@ -10,8 +10,8 @@ use Rattle.lines.specs.declared.kinds.Kind.{Kind}
 use Rattle.lines.specs.declared.kinds.Kind.TheVariants.{Hex, Quad, Segment, Point}
 use Rattle.lines.specs.Kinds.{corner_count}
 use Rattle.rules.specs.Lists.{concat_map}
-use Rattle.rules.specs.Mesh.{Mesh, Topology}
-use Rattle.rules.specs.Averaging.{rank, valence}
+use Rattle.rules.specs.Mesh.{Mesh, mesh, Topology, topology}
+use Rattle.rules.specs.Averaging.{counted, rank, valence}
 use Rattle.rules.specs.Text.{text}
 use Rattle.rules.specs.Listing.{decimal, signed_decimal, fields, line, vertex_line}
 
@@ -43,6 +43,15 @@ numbers m t v =
 pub vertex_line_is : (m : Mesh) (t : Topology) (v : ℕ) → vertex_line m t v ≡ line (text "v") (map signed_decimal (numbers m t v))
 unfolding vertex_line signed_decimal
 vertex_line_is m t v = rw (add-zero (3 * v)) refl
+
+-- rank and valence do not look at the coordinates
+pub rank_without : (xs : List ℤ) (hs qs ss ps : List ℕ) (v : ℕ) → rank (topology (mesh [] hs qs ss ps)) v ≡ rank (topology (mesh xs hs qs ss ps)) v
+unfolding rank counted topology
+rank_without xs hs qs ss ps v = refl
+
+pub valence_without : (xs : List ℤ) (hs qs ss ps : List ℕ) (v : ℕ) → valence (topology (mesh [] hs qs ss ps)) v ≡ valence (topology (mesh xs hs qs ss ps)) v
+unfolding valence counted topology
+valence_without xs hs qs ss ps v = refl
 
 pub some_corners : (k : Kind) → 0 < corner_count k
 some_corners Hex = lit< tt

@@ -2,11 +2,12 @@
 use mathlib.Core.Path.{◌≡◌, refl, sym, ap, ◌∙◌}
 use mathlib.Core.Bool.{Bool}
 use mathlib.Core.List.{List, [], ◌∷◌}
-use Prim.Native.Nat.{ℕ}
+use Prim.Native.Nat.{ℕ, zero, suc, ◌/◌}
 use native.Mathlib.Omega.{arith}
-use lib.ListN.{length}
+use lib.ListN.{length, take, drop}
+use Rattle.std.specs.Simd.{first_chunks}
 use Rattle.std.specs.List.{filter}
-use Rattle.rules.specs.Lists.{keep}
+use Rattle.rules.specs.Lists.{entries, cut, keep}
 use Rattle.rules.specs.Mesh.{Topology}
 use Rattle.rules.specs.Averaging.{holding, Counted, or_else, counted, rank, valence}
 
@@ -15,6 +16,16 @@ pub filter_keep : {A : Type 0} (p q : A → Bool) → ((x : A) → p x ≡ q x) 
 unfolding keep
 filter_keep p q same [] = refl
 filter_keep p q same (x ∷ xs) = rw (same x, filter_keep p q same xs)
+
+-- the library's word for the entries of a flat table
+chunks_entries : (k n : ℕ) (xs : List ℕ) → first_chunks k n xs ≡ entries k n xs
+unfolding entries
+chunks_entries k zero xs = refl
+chunks_entries k (suc n) xs = ap (λ (rest : List (List ℕ)). take k xs ∷ rest) (chunks_entries k n (drop k xs))
+
+pub chunks_cut : (k : ℕ) (xs : List ℕ) → first_chunks k (length xs / k) xs ≡ cut k xs
+unfolding cut
+chunks_cut k xs = chunks_entries k (length xs / k) xs
 
 -- ---- which table decides
 

@@ -17,7 +17,7 @@ use Rattle.counting.specs.Bounded.{Narrow}
 use Rattle.std.specs.Fmt.{decimal as printed, signed_decimal as signed}
 use Rattle.rules.specs.Refusals.{outside, coordinate_out_of_range}
 use Rattle.rules.specs.Text.{text}
-use Rattle.rules.specs.Listing.{decimal, signed_decimal, fields, line, mesh_line, vertex_line, cell_lines, refused_line}
+use Rattle.rules.specs.Listing.{decimal, signed_decimal, fields, line, mesh_line, vertex_line, cell_lines, mesh_lines, refused_line}
 use Rattle.lists.specs.Membership.{In}
 use Rattle.lists.proofs.Tests.{none_at}
 use Rattle.lists.proofs.Membership.{in_get_or, length_keep, in_up_from, length_up_from}
@@ -188,6 +188,12 @@ module _ (m : Mesh) (f : Fitting m) where
       let n = length m.vertices / 3 in
       let v = runs_length (vertex_line m (topology m)) 68 (up_from 0 n) (λ x i. vertex_length x (omega (arith, (in_up_from 0 n x i).1))) in
       omega (arith, v, length_up_from 0 n)
+
+  -- the longest listing
+  pub mesh_lines_length : Words m.hexes → Words m.quads → Words m.segments → Words m.points → length (mesh_lines m) ≤ output_size
+  unfolding mesh_lines topology
+  mesh_lines_length h q s p =
+      simp length-append (omega (arith, first_length, vertices_length, cells_length 104 8 m.hexes h, cells_length 113 4 m.quads q, cells_length 115 2 m.segments s, cells_length 112 1 m.points p))
 
   -- what the first line and the vertices leave for the cells
   pub cells_room : {t₀ t₁ t₂ : Text} → t₀.length + output_size ≤ length t₀.buffer.now → Appended t₀ t₁ (mesh_line (counts_of m)) → Appended t₁ t₂ (concat_map (vertex_line m (topology m)) (up_from 0 (length m.vertices / 3))) →

@@ -27,6 +27,10 @@ sets_append l i (a ∷ x) y = ap (λ (k : ℕ). sets (sets (set l i a) (suc i) x
 pub append_none : (t : Text) → Appended t t []
 append_none t = record { same_buffer = refl; stored = refl; behind = omega arith }
 
+-- one byte
+pub append_one : (t : Text) (b : ℕ) → Appended t (record t { buffer = record t.buffer { now = set t.buffer.now t.length b }; length = t.length + 1 }) (b ∷ [])
+append_one t b = record { same_buffer = refl; stored = refl; behind = refl }
+
 -- the buffer stays as long as it is
 pub append_length : {old new : Text} {x : List ℕ} → Appended old new x → length new.buffer.now ≡ length old.buffer.now
 append_length {old} {new} {x} a = ap length a.stored ∙ length-sets old.buffer.now old.length x

@@ -1,23 +1,38 @@
 -- The entries of the table that hold the vertex are what is counted.
-use Rattle.std.proofs.Common.{rules, tests, eqb, ap, ◌∙◌, length}
-use Rattle.std.specs.List.{list_any}
-use Rattle.std.specs.Slice.Iter.{chunks_exact_rest, chunks_exact_size}
-use Rattle.std.proofs.lemmas.Iterator.Consumers.{YieldsList-from_filter, count_from_yields_List}
+use Rattle.std.proofs.Common.{◌<◌, ◌^◌, refl, sym, rules, tests, arith, ap, ◌∙◌, length, cond, List, ℕ}
+use Rattle.std.specs.List.{count_by, sum_by}
+use Rattle.std.specs.Iterator.Adapters.{map_source}
+use Rattle.std.proofs.iter.Yields.{fronts}
+use Rattle.std.proofs.lemmas.List.Sums.{length-filter, count_by-le-length}
+use Rattle.std.proofs.lemmas.Iterator.{YieldsList, YieldsList-from_slice, YieldsList-from_map}
+use Rattle.std.proofs.lemmas.Iterator.Consumers.{YieldsList-at, sum_by_from_yields_List, fits_by_from_yields_list}
 use Rattle.rules.specs.Lists.{cut, has}
 use Rattle.rules.specs.Averaging.{holding}
-use Rattle.checks.proofs.Library.{YieldsList-from_cut, has_contains}
-use Rattle.lines.proofs.Held.{filter_keep}
+use Rattle.lines.proofs.Held.{chunks_cut, filter_keep}
+use Rattle.lines.proofs.ranks.count_holding.Given.{Over}
 use Rattle.lines.proofs.ranks.count_holding.Goals as goal
+use Rattle.lines.proofs.ranks.count_holding.Goals.{After-map}
+
+-- the entries, one by one
+entries : (g : Over) (c : After-map g) → YieldsList fronts (λ y. y.now) (map_source c.map.result) c.as_chunks.result.0.now
+entries g c = YieldsList-at c.map.ensures.source (YieldsList-from_slice c.as_chunks.result.0.now c.iter.ensures.rest)
+
+pub sum-requires-clause-fits : goal.sum-requires-clause-fits
+sum-requires-clause-fits g c =
+    let cells = c.as_chunks.result.0.now in
+    let one : List ℕ → ℕ = λ x. cond (has c.args.v x) 1 0 in
+    let few : sum_by one cells < 2 ^ 64 = omega (arith, count_by-le-length (has c.args.v) cells, c.iter.ensures.bound) in
+    fits_by_from_yields_list one cells _ _ (YieldsList-from_map _ one (entries g c) c.map.ensures.closure (λ x r q k. search (rules, tests))) few
 
 pub returns : goal.returns
 unfolding holding
-returns c =
-    let k = c.corner_count.result in
+returns g c =
+    let k = g.row.C in
     let table = c.args.table.now in
-    let s = c.filter.ensures.source in
-    count_from_yields_List _ _ c.count.ensures.ran
-    (YieldsList-from_filter {ys = cut k table} _ (λ cell. list_any (λ y. eqb y c.args.v) cell)
-    (YieldsList-from_cut k table c.corner_count.ensures.some (ap chunks_exact_size s ∙ c.chunks_exact.ensures.size) (ap chunks_exact_rest s ∙ c.chunks_exact.ensures.rest))
-    c.filter.ensures.closure (λ x b q h. search (rules, tests)))
-    ∙ ap length (filter_keep _ (has c.args.v) (has_contains c.args.v) (cut k table))
-    ∙ ap (λ n. length (holding c.args.v (cut n table))) c.corner_count.ensures.value
+    let cells = c.as_chunks.result.0.now in
+    let test = has c.args.v in
+    let one : List ℕ → ℕ = λ x. cond (test x) 1 0 in
+    let total = sum_by_from_yields_List one cells _ _ c.sum.ensures.ran (YieldsList-from_map _ one (entries g (goal.at.returns g c).After-map) c.map.ensures.closure (λ x r q k. search (rules, tests))) in
+    total
+    ∙ sym (length-filter test cells)
+    ∙ ap length (filter_keep test test (λ cell. refl) cells ∙ ap (holding c.args.v) (c.as_chunks.ensures.front ∙ chunks_cut k table))
