@@ -57,8 +57,9 @@ pub fn count_edges(w: &mut [u32], hexes: &[u32], quads: &[u32], segments: &[u32]
     parts::meet_table_of::<2>(w, room, by_quads, Parts::Segments, segments)
 }
 
-// The parts of the cells of one table, of C corners each: a constant, so that no loop over a key is left.
-fn count_table_of<const C: usize>(w: &mut [u32], of: Parts, cells: &[u32]) -> Option<usize>
+// The parts of the cells of one table, of C corners each: a constant, so that no loop over a key is left. With cells as parts: how many corner
+// sets they have.
+pub fn count_table_of<const C: usize>(w: &mut [u32], of: Parts, cells: &[u32]) -> Option<usize>
     requires { C ≡ part_corners of }
     ensures { CountOf (table_keys of cells.now) result }
 {
@@ -66,8 +67,8 @@ fn count_table_of<const C: usize>(w: &mut [u32], of: Parts, cells: &[u32]) -> Op
     parts::meet_table_of::<C>(w, room, 0, of, cells)
 }
 
-// The parts of the cells of one table. With cells as parts: how many corner sets they have. How many corners a part has is asked once for the
-// table.
+// The same for a caller that knows the parts only when it runs: how many corners a part has is asked once for the table. Where the check of
+// duplicate cells called this, refining points took 0.9 % more instructions: the bar is 0.5 %.
 pub fn count_table(w: &mut [u32], of: Parts, cells: &[u32]) -> Option<usize>
     ensures { CountOf (table_keys of cells.now) result }
 {
