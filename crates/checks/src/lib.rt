@@ -54,7 +54,7 @@ fn has_duplicate<const C: usize>(words: &mut [u32], of: Parts, cells: &[u32]) ->
     requires no_repeated_corner { any (repeats eqb) (cut C cells.now) ≡ false }
     ensures { result ≡ repeats same (map key_of (cut C cells.now)) }
 {
-    match count::count_table(words, of, cells) {
+    match count::count_table_of::<C>(words, of, cells) {
         Some(n) => n != cells.len() / C,
         None => by_classes::has_duplicate(words, C, cells),
     }
