@@ -1,12 +1,12 @@
 -- The entries of the table that hold the vertex are what is counted.
 use Rattle.std.proofs.Common.{◌<◌, ◌^◌, refl, sym, rules, tests, arith, ap, ◌∙◌, length, cond, List, ℕ}
-use Rattle.std.specs.List.{count_by, sum_by}
+use Rattle.std.specs.List.{sum_by}
 use Rattle.std.specs.Iterator.Adapters.{map_source}
 use Rattle.std.proofs.iter.Yields.{fronts}
 use Rattle.std.proofs.lemmas.List.Sums.{length-filter, count_by-le-length}
 use Rattle.std.proofs.lemmas.Iterator.{YieldsList, YieldsList-from_slice, YieldsList-from_map}
 use Rattle.std.proofs.lemmas.Iterator.Consumers.{YieldsList-at, sum_by_from_yields_List, fits_by_from_yields_list}
-use Rattle.rules.specs.Lists.{cut, has}
+use Rattle.rules.specs.Lists.{has}
 use Rattle.rules.specs.Averaging.{holding}
 use Rattle.lines.proofs.Held.{chunks_cut, filter_keep}
 use Rattle.lines.proofs.ranks.count_holding.Given.{Over}
