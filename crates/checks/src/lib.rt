@@ -107,16 +107,16 @@ pub fn is_little(words: usize, corners: usize) -> bool
     words < OWN_NUMBERS && words / 6 <= corners
 }
 
-// 5 to 8 in order. Where little is lent, an array of its own serves instead. It is not inlined: with `edge_count` in one caller, the arrays of
-// both would lie on the stack at once.
-#[inline(never)]
+// 5 to 8 in order. Where little is lent, an array of its own serves instead. The array has a name: so the compiler knows where it ends, and where
+// `edge_count` stands in the same caller both lie in one place on the stack.
 fn check_cells(words: &mut [u32], mesh: MeshTables) -> Result<usize, Refusal>
     requires { table_checks (mesh_in mesh) 0 ≡ 0 }
     ensures { MeshChecked (mesh_in mesh.entry) result }
 {
     let corners = mesh.hexes.len() + mesh.quads.len() + mesh.segments.len() + mesh.points.len();
     if is_little(words.len(), corners) {
-        return check_cells_with(&mut [0u32; OWN_NUMBERS], mesh);
+        let mut own = [0u32; OWN_NUMBERS];
+        return check_cells_with(&mut own, mesh);
     }
     check_cells_with(words, mesh)
 }
@@ -146,8 +146,7 @@ fn edge_count_with(words: &mut [u32], mesh: PlainMesh) -> usize
 }
 
 // How many edges there are; an array of its own serves as above. Segments by themselves are edges, each its own: no two have one corner
-// set. It is not inlined, as `check_cells` is not.
-#[inline(never)]
+// set.
 fn edge_count(words: &mut [u32], mesh: PlainMesh) -> usize
     requires { duplicate_cell (topology (mesh_in mesh.tables)) ≡ false }
     ensures { result ≡ parts_counted Part.Edge mesh.entry.tables }
@@ -157,7 +156,8 @@ fn edge_count(words: &mut [u32], mesh: PlainMesh) -> usize
     }
     let corners = mesh.tables.hexes.len() + mesh.tables.quads.len() + mesh.tables.segments.len();
     if is_little(words.len(), corners) {
-        return edge_count_with(&mut [0u32; OWN_NUMBERS], mesh);
+        let mut own = [0u32; OWN_NUMBERS];
+        return edge_count_with(&mut own, mesh);
     }
     edge_count_with(words, mesh)
 }

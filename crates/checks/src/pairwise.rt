@@ -19,8 +19,9 @@ pub fn is_within(a: &[u32], b: &[u32]) -> bool
     a.iter().all(|corner| cells::has_number(*corner, b))
 }
 
-// Whether two cells of a table, of k corners each, have one corner set.
-#[inline(always)]
+// Whether two cells of a table, of k corners each, have one corner set. It is not inlined: few tables come here, and among the checks that all
+// pass its loops take registers from theirs, 0.9 % more instructions on segments.
+#[inline(never)]
 pub fn has_duplicate(k: usize, table: &[u32]) -> bool
     requires k_nonzero { 0 < k }
     requires no_repeated_corner { any (repeats eqb) (cut k table.now) ≡ false }
