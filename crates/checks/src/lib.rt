@@ -107,16 +107,24 @@ pub fn is_little(words: usize, corners: usize) -> bool
     words < OWN_NUMBERS && words / 6 <= corners
 }
 
-// 5 to 8 in order. Where little is lent, an array of its own serves instead. The array has a name: so the compiler knows where it ends, and where
-// `edge_count` stands in the same caller both lie in one place on the stack.
+// 5 to 8 in order, with an array of its own. It is not inlined, here and in `edge_count_alone`: in one caller both arrays would lie on the stack
+// at once.
+#[inline(never)]
+fn check_cells_alone(mesh: MeshTables) -> Result<usize, Refusal>
+    requires { table_checks (mesh_in mesh) 0 ≡ 0 }
+    ensures { MeshChecked (mesh_in mesh.entry) result }
+{
+    check_cells_with(&mut [0u32; OWN_NUMBERS], mesh)
+}
+
+// 5 to 8 in order. Where little is lent, an array of its own serves instead.
 fn check_cells(words: &mut [u32], mesh: MeshTables) -> Result<usize, Refusal>
     requires { table_checks (mesh_in mesh) 0 ≡ 0 }
     ensures { MeshChecked (mesh_in mesh.entry) result }
 {
     let corners = mesh.hexes.len() + mesh.quads.len() + mesh.segments.len() + mesh.points.len();
     if is_little(words.len(), corners) {
-        let mut own = [0u32; OWN_NUMBERS];
-        return check_cells_with(&mut own, mesh);
+        return check_cells_alone(mesh);
     }
     check_cells_with(words, mesh)
 }
@@ -145,6 +153,14 @@ fn edge_count_with(words: &mut [u32], mesh: PlainMesh) -> usize
     }
 }
 
+// How many edges there are, with an array of its own.
+#[inline(never)]
+fn edge_count_alone(mesh: PlainMesh) -> usize
+    ensures { result ≡ parts_counted Part.Edge mesh.entry.tables }
+{
+    edge_count_with(&mut [0u32; OWN_NUMBERS], mesh)
+}
+
 // How many edges there are; an array of its own serves as above. Segments by themselves are edges, each its own: no two have one corner
 // set.
 fn edge_count(words: &mut [u32], mesh: PlainMesh) -> usize
@@ -156,8 +172,7 @@ fn edge_count(words: &mut [u32], mesh: PlainMesh) -> usize
     }
     let corners = mesh.tables.hexes.len() + mesh.tables.quads.len() + mesh.tables.segments.len();
     if is_little(words.len(), corners) {
-        let mut own = [0u32; OWN_NUMBERS];
-        return edge_count_with(&mut own, mesh);
+        return edge_count_alone(mesh);
     }
     edge_count_with(words, mesh)
 }

@@ -5,12 +5,14 @@
 // the checks near-linear (see `checks`); with k times fewer than 2 V the tables are walked k times.
 #![tactic(auto)]
 
-ghost use Rattle.std.specs.Prelude.{◌≡◌};
+ghost use Rattle.std.specs.Prelude.{◌≡◌, ◌/◌, length};
 ghost use Rattle.rules.specs.Answers.{count_answer_of};
+ghost use Rattle.rules.specs.Lists.{keep, up_from};
 ghost use Rattle.rules.specs.Mesh.{topology};
 ghost use Rattle.rules.specs.Refusals.{mesh_checks};
 ghost use Rattle.rules.specs.EntryPoints.{cleared, irregular_count, irregular_answer};
 ghost use Rattle.tables.specs.Lent.{mesh_in};
+ghost use Rattle.irregular.specs.Times.{irregular_in};
 
 use crate::tallies::FewCorners;
 use rules::Refusal;
@@ -18,6 +20,14 @@ use tables::MeshTables;
 
 // With two lent numbers for each vertex of a window.
 mod tallies;
+
+// The count with an array of its own. It is not inlined: the checks have one too, and both would lie on the stack at once.
+#[inline(never)]
+fn count_alone(mesh: FewCorners) -> u64
+    ensures { result ≡ length (keep (irregular_in (mesh_in mesh.entry.tables)) (up_from 0 (length (mesh_in mesh.entry.tables).vertices / 3))) }
+{
+    tallies::count(&mut [0u32; checks::OWN_NUMBERS], mesh)
+}
 
 // The count, of a mesh that passes the checks. Where little is lent, an array of its own serves instead.
 fn count(mesh: MeshTables, words: &mut [u32]) -> u64
@@ -27,8 +37,7 @@ fn count(mesh: MeshTables, words: &mut [u32]) -> u64
     let few = FewCorners { tables: mesh };
     let corners = mesh.hexes.len() + (mesh.quads.len() + (mesh.segments.len() + mesh.points.len()));
     if checks::is_little(words.len(), corners) {
-        let mut own = [0u32; checks::OWN_NUMBERS];
-        return tallies::count(&mut own, few);
+        return count_alone(few);
     }
     tallies::count(words, few)
 }

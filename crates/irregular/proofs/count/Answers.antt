@@ -11,7 +11,7 @@ pub invariant_of-few-2 : goal.invariant_of-few-2
 invariant_of-few-2 c = record { few = few_corners _ (checks_accept _ c.requires) }
 
 pub returns-then-is_little : goal.returns-then-is_little
-returns-then-is_little c = c.count.ensures ∙ sym (accepted_count _ (checks_accept _ c.requires))
+returns-then-is_little c = c.count_alone.ensures ∙ sym (accepted_count _ (checks_accept _ c.requires))
 
 pub returns : goal.returns
-returns c = c.count-2.ensures ∙ sym (accepted_count _ (checks_accept _ c.requires))
+returns c = c.count.ensures ∙ sym (accepted_count _ (checks_accept _ c.requires))
